@@ -1,0 +1,5 @@
+pub mod Numbers
+pub mod Entries
+pub mod Lines
+pub mod Packs
+pub mod Refusals
