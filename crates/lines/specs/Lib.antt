@@ -3,3 +3,4 @@ pub mod Entries
 pub mod Lines
 pub mod Packs
 pub mod Refusals
+pub mod Laws

@@ -1,13 +1,10 @@
 // Looking into a line, and the lines that come of setting or clearing an entry.
 ghost use mathlib.Core.Path.{_≡_};
-ghost use mathlib.Core.Bool.{not, _&&_};
-ghost use lib.Dec.{eqb};
 ghost use lib.ListN.{getD, set, replicate};
-ghost use Rattle.std.specs.Orderings.{Decides};
 ghost use Rattle.lines.specs.declared.entries.Entry.the-variants.{Absent, Present};
 ghost use Rattle.lines.specs.Entries.{anyPresent};
 ghost use Rattle.lines.specs.Numbers.{clusterOf, positionOf};
-ghost use Rattle.lines.specs.Lines.{emptyLine, entryAt, isEmpty, isOf, Holds, clusterLeft};
+ghost use Rattle.lines.specs.Lines.{entryAt, isEmpty, isOf, Holds, clusterLeft};
 use crate::entries::Entry;
 use crate::entries::Mapping;
 use crate::numbers::Page;
@@ -26,7 +23,7 @@ pub(crate) fn any_present(entries: &[Entry; 8]) -> bool
 
 impl Line {
     pub fn empty() -> Line
-        ensures { λ r. ⌜ r ≡ emptyLine ⌝ }
+        ensures { λ r. ⌜ Holds r 0 (replicate 8 Absent) ⌝ }
     {
         Line {
             cluster: 0,
@@ -58,8 +55,7 @@ impl Line {
     }
 
     pub fn is_empty(&self) -> bool
-        ensures said { λ r. ⌜ r ≡ isEmpty (now (self .entry)) ⌝ }
-        ensures means { λ r. ⌜ Decides r (now (self .entry) ≡ emptyLine) ⌝ }
+        ensures { λ r. ⌜ r ≡ isEmpty (now (self .entry)) ⌝ }
     {
         !any_present(&self.entries)
     }
@@ -71,7 +67,7 @@ impl Line {
         !self.is_empty() && self.cluster == cluster
     }
 
-    // the line with the entry at a position set; there is none past the eighth
+    // the line of the same cluster with the entry at a position set; there is none past the eighth
     pub fn with(&self, position: usize, mapping: Mapping) -> Line
         ensures { λ r. ⌜ Holds r (now (self .entry) .cluster) (set (now (self .entry) .entries) position (Present mapping)) ⌝ }
     {

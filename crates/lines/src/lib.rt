@@ -2,6 +2,7 @@
 pub mod edits;
 pub mod entries;
 pub mod faults;
+pub mod laws;
 pub mod numbers;
 pub mod packs;
 pub mod rows;

@@ -13,6 +13,8 @@ use crate::packs::CLUSTER_BITS;
 use crate::packs::CONTENT_BITS;
 use crate::rows::Line;
 
+const CLUSTERS: u64 = 1 << 33;
+
 fn word_at(bytes: &[u8], k: usize) -> u64
     requires { ⌜ length (now bytes) ≡ 64 ⌝ ∗ ⌜ k < 8 ⌝ }
     ensures value { λ r. ⌜ r ≡ wordAt (now (bytes .entry)) k ⌝ }
@@ -41,7 +43,7 @@ impl Line {
             entries[k] = entry;
             cluster += (word >> CONTENT_BITS) << (CLUSTER_BITS * k);
         }
-        if cluster >= 1 << 33 {
+        if cluster >= CLUSTERS {
             return Err(LineFault::NotALine);
         }
         let present = any_present(&entries);

@@ -10,6 +10,12 @@ use crate::faults::LineFault;
 use crate::numbers::Address;
 use crate::numbers::Page;
 
+const ADDRESSES: u64 = 1 << 48;
+
+const PAGES: u64 = 1 << 36;
+
+const FRAMES: u64 = 1 << 34;
+
 const PAGE_BYTES: u64 = 4096;
 
 const PAGES_IN_A_LINE: u64 = 8;
@@ -18,7 +24,7 @@ impl Address {
     pub fn new(number: u64) -> Result<Address, LineFault>
         ensures { λ r. ⌜ AddressMade number r ⌝ }
     {
-        if number >= 1 << 48 {
+        if number >= ADDRESSES {
             return Err(LineFault::PageTooLarge);
         }
         Ok(Address { number })
@@ -43,7 +49,7 @@ impl Page {
     pub fn new(number: u64) -> Result<Page, LineFault>
         ensures { λ r. ⌜ PageMade number r ⌝ }
     {
-        if number >= 1 << 36 {
+        if number >= PAGES {
             return Err(LineFault::PageTooLarge);
         }
         Ok(Page { number })
@@ -66,7 +72,7 @@ impl Mapping {
     pub fn new(frame: u64, rights: u64) -> Result<Mapping, LineFault>
         ensures { λ r. ⌜ MappingMade frame rights r ⌝ }
     {
-        if frame >= 1 << 34 {
+        if frame >= FRAMES {
             return Err(LineFault::FrameTooLarge);
         }
         if rights < 1 || rights > 7 {

@@ -61,8 +61,8 @@ loop-k-again c =
           (ap wordOf (getD-set-same (c .loop-k .entries) k (c .in-Some .entry) Absent here) ∙ c .in-Some .ensures tt ∙ ap (λ w. w % 2 ^ contentBits) (c .word-at-word .ensures .value)),
     )
 
-pub returns-then-cluster : need.returns-then-cluster
-returns-then-cluster c =
+pub returns-then-cluster-ge-CLUSTERS : need.returns-then-cluster-ge-CLUSTERS
+returns-then-cluster-ge-CLUSTERS c =
     let d = read (c .args .bytes .now) (c .loop-k .cluster) (c .loop-k .k) (c .loop-k .entries) (c .loop-k-test .left) (c .loop-k .kept .k-end) (c .loop-k .inv) in
     let r = refused (c .args .bytes .now) (λ l e. omega (arith, only-cluster l _ _ _ d e, l .ok .0)) in
     record { said = r .0; back = r .1 }

@@ -1,0 +1,5 @@
+pub mod Following
+pub mod Knowing
+pub mod Powers
+pub mod Rotations
+pub mod Small

@@ -1,0 +1,5 @@
+pub mod Known
+pub mod Words
+pub mod Digits
+pub mod Mixes
+pub mod Tables

@@ -1,0 +1,4 @@
+-- The lemmas of this crate.
+pub mod Parting
+pub mod Digits
+pub mod Threes
