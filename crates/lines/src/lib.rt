@@ -14,6 +14,7 @@ pub use entries::EntryPartialEq;
 pub use entries::Mapping;
 pub use entries::MappingPartialEq;
 pub use faults::LineFault;
+pub use faults::LineFaultPartialEq;
 pub use numbers::Address;
 pub use numbers::AddressPartialEq;
 pub use numbers::Page;
