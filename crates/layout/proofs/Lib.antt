@@ -1,3 +1,5 @@
+pub mod Filling
+pub mod Readying
 pub mod Entering
 pub mod Answering
 pub mod Running

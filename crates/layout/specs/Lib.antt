@@ -1,3 +1,5 @@
 pub mod Lists
 pub mod Refusals
 pub mod Sheets
+pub mod Blanks
+pub mod Steps

@@ -1,4 +1,5 @@
 // Lays a list of pages out as lines, and says which of its lines are refused.
+mod blanks;
 mod calls;
 mod faults;
 mod sheets;

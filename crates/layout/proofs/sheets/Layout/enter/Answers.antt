@@ -1,4 +1,3 @@
-use borrow.Author.Needs.{needs}
 use borrow.Author.Tests.{ne-eqb}
 use mathlib.Core.Path.{_≡_, refl, sym, _∙_, ap, subst}
 use Prim.Native.Nat.{ℕ, _+_, _*_}
@@ -6,8 +5,9 @@ use Rattle.std.specs.BTreeMap.{at}
 use Rattle.std.specs.declared.option.Option.the-variants.{Some}
 use Rattle.std.specs.Keys.{unsigned, unsigned-tied}
 use Rattle.lines.specs.Numbers.{clusterOf}
-use Rattle.layout.specs.Sheets.{Joined}
-use Rattle.layout.proofs.Entering.{entered-words, entered-own}
+use Rattle.layout.specs.Steps.{Joined}
+use Rattle.layout.proofs.Entering.{entered-words, entered-own, entered-filled}
+use Rattle.layout.proofs.Filling.{has-word}
 use Rattle.layout.proofs.sheets.Layout.enter.Needs as need
 
 pub returns : need.returns
@@ -24,7 +24,12 @@ returns c =
     let other : (q : ℕ) → (q ≡ clusterOf p → ⊥) → at unsigned n q ≡ at unsigned m q =
     λ q d. put .3 q (unsigned-tied q (c .cluster .result) ∙ ne-eqb q (c .cluster .result) (λ e. d (e ∙ k))) in
     record {
-      lines = (c .in-Some .ensures tt .free, record { ordered = put .0; own = entered-own m n p w b here other j (c .pre .own) }, entered-words m n p w b here other j);
+      lines = (c .in-Some .ensures tt .free, record { ordered = put .0; own = entered-own m n p w b here other j (c .pre .own) }, entered-words m n p w b here other j, entered-filled m n p w b here other j);
       pages = refl;
       refused = refl;
     }
+
+pub returns-in-rest : need.returns-in-rest
+returns-in-rest c =
+    let has = c .in-rest .ensures tt in
+    record { lines = (has, refl, refl, has-word (c .args .self .now .lines) (c .args .page .number) has); pages = refl; refused = refl }

@@ -1,13 +1,14 @@
-use mathlib.Core.List.{List, [], _∷_, _++_, map}
-use mathlib.Core.Path.{_≡_, refl, sym, _∙_, ap, subst}
+use mathlib.Core.List.{[], _∷_, _++_, map}
+use mathlib.Core.Path.{sym, _∙_, ap, subst}
 use native.Mathlib.Omega.{arith}
-use Prim.Native.Nat.{ℕ}
 use Rattle.std.proofs.shelf.Lists.{map-push}
 use Rattle.std.specs.Of.Vec.{vec-items, vec-len}
 use Rattle.std.specs.declared.result.Result.the-variants.{Err}
 use Rattle.reading.specs.Numbers.{threeOf}
-use Rattle.layout.specs.Lists.{rowRefusal, noted}
-use Rattle.layout.specs.Sheets.{Sound, Answered, refusal, wordIn}
+use Rattle.layout.specs.Lists.{rowRefusal}
+use Rattle.layout.specs.Blanks.{Loose}
+use Rattle.layout.specs.Sheets.{refusal, wordIn}
+use Rattle.layout.specs.Steps.{Answered}
 use Rattle.layout.proofs.Answering.{noted-some}
 use Rattle.layout.proofs.sheets.Layout.take_row.Needs as need
 
@@ -20,7 +21,8 @@ returns-in-Continue-push c =
     let kept = c .in-Continue-enter-row .ensures tt .refused in
     let pushed = c .in-Continue-push .ensures tt in
     record {
-      sound = subst Sound (sym (a .2)) (c .pre .sound);
+      loose = subst Loose (sym (a .2)) (c .pre .loose);
+      filled = a .4;
       book = ap wordIn (a .2) ∙ sym (a .3);
       refused =
           ap (map refusal) (pushed .items ∙ ap (λ v. vec-items v ++ (record { line = c .args .line; fault = c .in-Err .fault }) ∷ []) kept)
