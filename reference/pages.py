@@ -67,6 +67,12 @@ def unpack(data):
     return cluster, words
 
 
+def damages(cluster, words):
+    """How many of the 512 single-bit damages of a packed line still are some line."""
+    data = int.from_bytes(pack(cluster, words), "little")
+    return sum(unpack((data ^ 1 << bit).to_bytes(64, "little")) is not None for bit in range(512))
+
+
 def read_number(field):
     ok = 1 <= len(field) <= 15 and all(48 <= b <= 57 for b in field)
     return int(field) if ok else None

@@ -1,7 +1,6 @@
--- Bytes in hexadecimal, one after the other. Assumes nothing.
+-- Bytes in hexadecimal, one after the other.
 use mathlib.Core.List.{List, [], _∷_, _++_}
 use mathlib.Core.Path.{_≡_, refl, ap}
-use native.Mathlib.Omega.{arith}
 use Prim.Native.Nat.{ℕ, _/_, _%_, _<_}
 use borrow.Author.Needs.{needs}
 use Rattle.account.specs.Hex.{digitCode, hexOf}

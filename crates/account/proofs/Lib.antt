@@ -1,1 +1,2 @@
+-- The lemmas of `account`.
 pub mod Hexes

@@ -1,4 +1,4 @@
--- The text of an account. Assumes nothing.
+-- The text of an account.
 use mathlib.Core.List.{List, [], _∷_, _++_}
 use mathlib.Core.Path.{_≡_}
 use Prim.Native.Nat.{ℕ, _*_}
@@ -37,8 +37,8 @@ packedText l = codes "cluster " ++ (decimal (l .cluster) ++ (codes "\n  packed "
 abbrev pub lineText : Line → List ℕ
 lineText l = packedText l ++ (familiesText (l .cluster) ++ codes "  unpacks to the same line\n")
 
--- the lines, one after the other
 module _ {Y : Type 0} where
+  -- the lines, one after the other
   abbrev pub linesText : List (Box Line Y) → List ℕ
   linesText [] = []
   linesText (b ∷ bs) = lineText (box-value b) ++ linesText bs

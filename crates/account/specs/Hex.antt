@@ -1,4 +1,4 @@
--- Bytes in hexadecimal. Assumes nothing.
+-- Bytes in hexadecimal.
 use mathlib.Core.Bool.{cond}
 use mathlib.Core.List.{List, [], _∷_}
 use Prim.Native.Nat.{ℕ, _+_, _/_, _%_}

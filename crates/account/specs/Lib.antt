@@ -1,2 +1,3 @@
+-- The definitions that the contracts cite of `account`.
 pub mod Hex
 pub mod Accounts

@@ -1,9 +1,8 @@
 // The account of a whole layout.
 ghost use mathlib.Core.List.{_++_};
 ghost use mathlib.Core.Path.{_≡_};
-ghost use Rattle.std.specs.BTreeMap.{vals, size};
+ghost use Rattle.std.specs.BTreeMap.{vals};
 ghost use Rattle.std.specs.Of.String.{string-bytes};
-ghost use Rattle.std.specs.Of.Vec.{vec-len};
 ghost use Rattle.std.specs.Vec.{made};
 ghost use Rattle.account.specs.Accounts.{linesText, refusalText, refusalsText, totalsText, layoutText, Accounted};
 use crate::lines_of::line_account;

@@ -1,3 +1,4 @@
+-- The lemmas of `families`.
 pub mod Following
 pub mod Knowing
 pub mod Powers

@@ -1,3 +1,4 @@
+-- The definitions that the contracts cite of `families`.
 pub mod Known
 pub mod Words
 pub mod Digits

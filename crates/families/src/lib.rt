@@ -1,6 +1,6 @@
 // Hash families: a number of 32 bits for each of three ways and each cluster.
+mod constants;
 pub mod digits;
-mod entries;
 pub mod family;
 pub mod mixes;
 mod range;

@@ -2,7 +2,7 @@
 ghost use mathlib.Core.Path.{_≡_};
 ghost use Prim.Native.Nat.{_<_};
 ghost use Rattle.families.specs.Tables.{tableNumber, chosen, joined};
-use crate::entries::entry;
+use crate::constants::table_at;
 use crate::family::Family;
 use crate::range::is_known;
 use crate::rotation::rotated;
@@ -39,5 +39,5 @@ fn choose(cluster: u64, j: usize) -> u32
     ensures { λ r. ⌜ r ≡ chosen cluster j ⌝ }
 {
     let byte = (cluster >> (8 * j)) % 256;
-    entry(256 * j + byte as usize)
+    table_at(256 * j + byte as usize)
 }

@@ -1,4 +1,4 @@
--- What a line of the list does to a book, by what was read of it. Assumes nothing.
+-- What a line of the list does to a book, by what was read of it.
 use borrow.Author.Tests.{ne-eqb}
 use mathlib.Core.Bool.{Bool, cond}
 use mathlib.Core.List.{List, [], _∷_}

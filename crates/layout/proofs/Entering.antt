@@ -1,4 +1,4 @@
--- What entering one page's line does to the words of all pages. Assumes nothing.
+-- What entering one page's line does to the words of all pages.
 use mathlib.Core.Bool.{Bool, true, false, cond, not, _&&_}
 use mathlib.Core.List.{List}
 use mathlib.Core.Logic.{_⊎_, inl, ⊎-elim}

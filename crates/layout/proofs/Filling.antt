@@ -1,4 +1,4 @@
--- Empty lines: their words, and why none is left at the end of a list. Assumes nothing.
+-- Empty lines: their words, and why none is left at the end of a list.
 use mathlib.Core.Bool.{Bool, true, false, not, _&&_}
 use mathlib.Core.List.{List, [], _∷_}
 use mathlib.Core.Logic.{_⊎_, inl, inr, ⊎-elim}

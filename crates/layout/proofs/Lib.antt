@@ -1,3 +1,4 @@
+-- The lemmas of `layout`.
 pub mod Filling
 pub mod Readying
 pub mod Entering

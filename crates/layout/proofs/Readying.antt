@@ -1,4 +1,4 @@
--- Lines made ready, one after another, for the clusters that a list names. Assumes nothing.
+-- Lines made ready, one after another, for the clusters that a list names.
 use mathlib.Core.Bool.{true}
 use mathlib.Core.List.{List, [], _∷_, _++_}
 use mathlib.Core.Logic.{_⊎_, inl, inr, ⊎-elim}

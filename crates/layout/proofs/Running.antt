@@ -1,4 +1,4 @@
--- A list as far as it was laid out. Assumes nothing.
+-- A list as far as it was laid out.
 use mathlib.Core.List.{List, [], _++_, map, append-assoc, append-nil}
 use mathlib.Core.Path.{_≡_, sym, ap, _∙_, subst}
 use native.Mathlib.Omega.{arith}

@@ -1,4 +1,4 @@
--- Lines that stand ready, still empty, for the pages of a list. Assumes nothing.
+-- Lines that stand ready, still empty, for the pages of a list.
 use mathlib.Core.Bool.{true}
 use mathlib.Core.List.{List, [], _∷_}
 use mathlib.Core.Logic.{_⊎_}

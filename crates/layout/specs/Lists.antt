@@ -1,4 +1,4 @@
--- What a list of pages says, line by line, with no regard to how it is laid out. Assumes nothing.
+-- What a list of pages says, line by line, with no regard to how it is laid out.
 use mathlib.Core.Bool.{cond}
 use mathlib.Core.List.{List, [], _∷_, _++_}
 use Prim.Native.Nat.{ℕ, _+_, _*_}
@@ -12,6 +12,7 @@ use Rattle.reading.specs.Numbers.{threeOf}
 abbrev pub Book : Type 0
 Book = ℕ → ℕ
 
+-- the book without a page
 abbrev pub bare : Book
 bare p = 0
 

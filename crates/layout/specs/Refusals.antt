@@ -1,4 +1,4 @@
--- Each refusal of a list by its number. Assumes nothing.
+-- Each refusal of a list by its number.
 use mathlib.Core.List.{List, [], _∷_}
 use Prim.Native.Nat.{ℕ}
 use Rattle.lines.specs.Refusals as line

@@ -1,4 +1,4 @@
--- What lines laid out hold, and when they are those of a list. Assumes nothing.
+-- What lines laid out hold, and when they are those of a list.
 use mathlib.Core.Bool.{true}
 use mathlib.Core.List.{List, map}
 use mathlib.Core.Path.{_≡_}

@@ -1,4 +1,4 @@
--- What one line of a list does to the lines laid out so far. Assumes nothing.
+-- What one line of a list does to the lines laid out so far.
 use mathlib.Core.Bool.{true, cond}
 use mathlib.Core.List.{List, [], _∷_, _++_, map}
 use mathlib.Core.Path.{_≡_}

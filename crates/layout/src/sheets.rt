@@ -12,7 +12,7 @@ pub struct Refusal {
 
 #[derive(Drop)]
 pub struct Layout {
-    // the lines by their clusters, boxed so that an insertion moves little
+    // the lines by their clusters, boxed since the map moves what it holds as it grows
     pub lines: BTreeMap<u64, Box<Line>>,
     // how many pages they hold
     pub pages: u64,

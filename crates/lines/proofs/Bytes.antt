@@ -1,4 +1,4 @@
--- Bytes and the one line that packs to them. Assumes nothing.
+-- Bytes and the one line that packs to them.
 use borrow.Author.Needs.{needs}
 use mathlib.Core.List.{List}
 use mathlib.Core.Path.{_≡_, refl, sym, ap, _∙_}

@@ -1,3 +1,4 @@
+-- The lemmas of `lines`.
 pub mod Same
 pub mod Parts
 pub mod Present

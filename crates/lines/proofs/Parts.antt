@@ -1,5 +1,5 @@
--- A number and its parts of some bits each, whatever that number of bits. Assumes nothing.
-use mathlib.Core.Path.{_≡_, refl, sym, ap, _∙_}
+-- A number and its parts of some bits each, whatever that number of bits.
+use mathlib.Core.Path.{_≡_, sym, ap, _∙_}
 use native.Mathlib.Nat.{add-mul-div-right, add-mul-mod-self-right, mul-add, mul-assoc, mul-one, mul-suc, mul-zero, mod-eq-of-lt}
 use native.Mathlib.Omega.{arith}
 use Prim.Native.Nat.{ℕ, zero, suc, _+_, _-_, _*_, _/_, _%_, _^_, _<_}

@@ -1,4 +1,4 @@
--- Which entries are present, and the words that tell entries apart. Assumes nothing.
+-- Which entries are present, and the words that tell entries apart.
 use mathlib.Core.Bool.{Bool, true, false, not}
 use mathlib.Core.List.{List, [], _∷_}
 use mathlib.Core.Path.{_≡_, refl, sym, ap, _∙_}

@@ -1,4 +1,4 @@
--- Values whose plain fields are equal are equal. Assumes nothing.
+-- Values whose plain fields are equal are equal.
 use mathlib.Core.HLevel.{isProp→PathP}
 use mathlib.Core.List.{List}
 use mathlib.Core.Path.{_≡_}

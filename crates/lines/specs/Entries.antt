@@ -1,4 +1,4 @@
--- The word of an entry. Assumes nothing.
+-- The word of an entry.
 use mathlib.Core.Bool.{Bool, true, false}
 use mathlib.Core.List.{List, [], _∷_}
 use mathlib.Core.Path.{_≡_}

@@ -1,4 +1,4 @@
--- What the types of lines rule out. Assumes nothing.
+-- What the types of lines rule out.
 use mathlib.Core.Path.{_≡_}
 use Rattle.std.specs.Orderings.{Decides}
 use Rattle.lines.specs.declared.entries.Entry.{Entry}

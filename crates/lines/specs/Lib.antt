@@ -1,3 +1,4 @@
+-- The definitions that the contracts cite of `lines`.
 pub mod Numbers
 pub mod Entries
 pub mod Lines

@@ -1,4 +1,4 @@
--- Pages, clusters and places as plain numbers. Assumes nothing.
+-- Pages, clusters and places as plain numbers.
 use mathlib.Core.Bool.{Bool, cond, _&&_}
 use Prim.Native.Nat.{ℕ, _+_, _*_, _/_, _%_, _^_}
 use lib.Dec.{leb, ltb}

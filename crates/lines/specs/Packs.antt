@@ -1,4 +1,4 @@
--- The packed form of a line: eight words of 64 bits, low byte first. Assumes nothing.
+-- The packed form of a line: eight words of 64 bits, low byte first.
 use mathlib.Core.List.{List, map}
 use Prim.Native.Nat.{ℕ, _+_, _-_, _*_, _/_, _%_, _^_}
 use lib.ListN.{getD}

@@ -1,4 +1,4 @@
--- Each refusal by its number, and when it is given. Assumes nothing.
+-- Each refusal by its number, and when it is given.
 use mathlib.Core.List.{List, [], _∷_}
 use mathlib.Core.Path.{_≡_}
 use Prim.Native.Nat.{ℕ}

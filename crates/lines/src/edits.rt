@@ -1,10 +1,8 @@
 // Looking into a line, and the lines that come of setting or clearing an entry.
 ghost use mathlib.Core.Path.{_≡_};
-ghost use lib.ListN.{getD, set, replicate};
-ghost use Rattle.lines.specs.declared.entries.Entry.the-variants.{Absent, Present};
 ghost use Rattle.lines.specs.Entries.{anyPresent};
 ghost use Rattle.lines.specs.Numbers.{clusterOf, positionOf};
-ghost use Rattle.lines.specs.Lines.{entryAt, isEmpty, isOf, Holds, clusterLeft};
+ghost use Rattle.lines.specs.Lines.{entryAt, isEmpty, isOf, filled, cleared, noEntries, Holds, clusterLeft};
 use crate::entries::Entry;
 use crate::entries::Mapping;
 use crate::numbers::Page;
@@ -23,7 +21,7 @@ pub(crate) fn any_present(entries: &[Entry; 8]) -> bool
 
 impl Line {
     pub fn empty() -> Line
-        ensures { λ r. ⌜ Holds r 0 (replicate 8 Absent) ⌝ }
+        ensures { λ r. ⌜ Holds r 0 noEntries ⌝ }
     {
         Line {
             cluster: 0,
@@ -33,7 +31,7 @@ impl Line {
 
     // the line with one page alone
     pub fn only(page: Page, mapping: Mapping) -> Line
-        ensures { λ r. ⌜ Holds r (clusterOf (page .number)) (set (replicate 8 Absent) (positionOf (page .number)) (Present mapping)) ⌝ }
+        ensures { λ r. ⌜ Holds r (clusterOf (page .number)) (filled noEntries (positionOf (page .number)) mapping) ⌝ }
     {
         let mut entries = [Entry::Absent; 8];
         entries[page.position()] = Entry::Present(mapping);
@@ -69,7 +67,7 @@ impl Line {
 
     // the line of the same cluster with the entry at a position set; there is none past the eighth
     pub fn with(&self, position: usize, mapping: Mapping) -> Line
-        ensures { λ r. ⌜ Holds r (now (self .entry) .cluster) (set (now (self .entry) .entries) position (Present mapping)) ⌝ }
+        ensures { λ r. ⌜ Holds r (now (self .entry) .cluster) (filled (now (self .entry) .entries) position mapping) ⌝ }
     {
         if position >= 8 {
             return *self;
@@ -84,7 +82,7 @@ impl Line {
 
     // the line with the entry at a position cleared: the empty line where that was the last
     pub fn without(&self, position: usize) -> Line
-        ensures { λ r. ⌜ Holds r (clusterLeft (now (self .entry) .cluster) (set (now (self .entry) .entries) position Absent)) (set (now (self .entry) .entries) position Absent) ⌝ }
+        ensures { λ r. ⌜ Holds r (clusterLeft (now (self .entry) .cluster) (cleared (now (self .entry) .entries) position)) (cleared (now (self .entry) .entries) position) ⌝ }
     {
         let mut entries = self.entries;
         if position < 8 {

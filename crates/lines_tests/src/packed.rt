@@ -31,9 +31,13 @@ fn damages(line: &Line) -> Result<u32, Fail> {
         for bit in [1u8, 2, 4, 8, 16, 32, 64, 128] {
             let mut damaged = bytes;
             damaged[at] ^= bit;
-            if let Ok(other) = Line::unpack(&damaged) {
-                check(other != *line)?;
-                lines = lines.saturating_add(1);
+            match Line::unpack(&damaged) {
+                Ok(other) => {
+                    check(other != *line)?;
+                    check_eq(other.pack(), damaged)?;
+                    lines = lines.saturating_add(1);
+                }
+                Err(fault) => check(fault == LineFault::NotALine)?,
             }
         }
     }
@@ -85,7 +89,7 @@ fn empty_line() -> Result<(), Fail> {
     check_eq(damages(&line)?, EMPTY_LINES)
 }
 
-// The counts come from the second implementation.
+// The counts come from the second implementation: `damages` of reference/pages.py.
 const NINE_LINES: u32 = 90;
 
 const LARGEST_LINES: u32 = 329;

@@ -1,7 +1,8 @@
-use mathlib.Core.List.{List, _∷_}
+-- What the search leaves to show of `worked_examples_hold`.
+use mathlib.Core.List.{_∷_}
 use mathlib.Core.Path.{_≡_, refl, sym, _∙_, ap}
 use native.Mathlib.Omega.{arith}
-use Prim.Native.Nat.{ℕ, _%_, _^_}
+use Prim.Native.Nat.{_%_, _^_}
 use lib.Dec.{lit<, lit≤}
 use lib.ListN.{replicate, set}
 use Rattle.lines.specs.declared.entries.Entry.{Entry}

@@ -1,5 +1,6 @@
+-- What the search leaves to show of `push_byte`.
 use mathlib.Core.List.{List, [], _∷_, _++_, append-assoc}
-use mathlib.Core.Path.{_≡_, sym, _∙_, ap, subst}
+use mathlib.Core.Path.{sym, _∙_, ap, subst}
 use native.Mathlib.Omega.{arith}
 use Prim.Native.Nat.{ℕ, _<_, _/_, _%_}
 use Rattle.std.specs.Of.String.{string-bytes}

@@ -1,3 +1,4 @@
+-- What the search leaves to show of `account`.
 use Rattle.account.proofs.whole.account.Needs as need
 
 pub returns : need.returns

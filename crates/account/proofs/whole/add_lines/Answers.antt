@@ -1,5 +1,6 @@
-use mathlib.Core.List.{List, [], _∷_, _++_, append-assoc, append-nil}
-use mathlib.Core.Path.{_≡_, sym, _∙_, ap}
+-- What the search leaves to show of `add_lines`.
+use mathlib.Core.List.{List, _++_, append-assoc, append-nil}
+use mathlib.Core.Path.{sym, _∙_, ap}
 use Prim.Native.Nat.{ℕ}
 use Rattle.std.proofs.shelf.Lists.{nil-from-length}
 use Rattle.std.specs.Of.String.{string-bytes}

@@ -1,3 +1,4 @@
+-- What the loop of `add_lines` keeps.
 use mathlib.Core.List.{_++_}
 use mathlib.Core.Path.{_≡_}
 use Rattle.std.specs.BTreeMap.{vals}

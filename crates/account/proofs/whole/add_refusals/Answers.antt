@@ -1,11 +1,12 @@
-use mathlib.Core.List.{List, [], _∷_, _++_, append-assoc, append-nil}
-use mathlib.Core.Path.{_≡_, sym, _∙_, ap}
+-- What the search leaves to show of `add_refusals`.
+use mathlib.Core.List.{List, _++_, append-assoc, append-nil}
+use mathlib.Core.Path.{sym, _∙_, ap}
 use native.Mathlib.Omega.{arith}
 use Prim.Native.Nat.{ℕ, _+_}
 use lib.ListN.{drop}
 use Rattle.std.proofs.shelf.Lists.{at-drop-more, at-drop-all}
 use Rattle.std.specs.Of.String.{string-bytes}
-use Rattle.account.specs.Accounts.{refusalText, refusalsText}
+use Rattle.account.specs.Accounts.{refusalsText}
 use Rattle.account.proofs.whole.add_refusals.Needs as need
 
 pub loop-refusal-again : need.loop-refusal-again

@@ -1,3 +1,4 @@
+-- What the loop of `add_refusals` keeps.
 use mathlib.Core.List.{_++_}
 use mathlib.Core.Path.{_≡_}
 use lib.ListN.{drop}

@@ -1,4 +1,5 @@
-use mathlib.Core.List.{List, [], _++_, append-assoc}
+-- What the search leaves to show of `layout_account`.
+use mathlib.Core.List.{List, _++_, append-assoc}
 use mathlib.Core.Path.{_≡_, _∙_, ap}
 use Prim.Native.Nat.{ℕ}
 use Rattle.std.specs.BTreeMap.{size, vals}

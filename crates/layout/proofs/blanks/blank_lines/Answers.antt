@@ -1,3 +1,4 @@
+-- What the search leaves to show of `blank_lines`.
 use borrow.Author.Tests.{ne-eqb}
 use mathlib.Core.Bool.{true, not}
 use mathlib.Core.Path.{_≡_, sym, _∙_, ap, subst}

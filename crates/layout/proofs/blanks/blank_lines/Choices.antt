@@ -1,3 +1,4 @@
+-- What the loop of `blank_lines` keeps.
 use Rattle.reading.specs.Parts.{linesOf}
 use Rattle.layout.specs.Blanks.{Ready}
 use Rattle.layout.proofs.blanks.blank_lines.Given as given

@@ -1,3 +1,4 @@
+-- What the search leaves to show of `clusters_of`.
 use Rattle.std.specs.Of.Vec.{vec-items}
 use Rattle.reading.specs.Numbers.{threeOf}
 use Rattle.reading.specs.Parts.{linesOf}

@@ -1,3 +1,4 @@
+-- What the loop of `clusters_of` keeps.
 use lib.ListN.{length}
 use Rattle.std.specs.Of.Vec.{vec-items}
 use Rattle.reading.specs.Parts.{linesOf}

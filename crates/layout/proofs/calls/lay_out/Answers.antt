@@ -1,3 +1,4 @@
+-- What the search leaves to show of `lay_out`.
 use mathlib.Core.Path.{refl}
 use Rattle.layout.proofs.Running.{begun, one-more, ended}
 use Rattle.layout.proofs.calls.lay_out.Needs as need

@@ -1,3 +1,4 @@
+-- What the loop of `lay_out` keeps.
 use Rattle.layout.proofs.Running.{Sofar}
 use lib.ListN.{length}
 use Rattle.layout.proofs.calls.lay_out.Given as given

@@ -1,3 +1,4 @@
+-- What the search leaves to show of `line_laws_hold`.
 use Rattle.lines.proofs.Present.{decides-empty, same-word}
 use Rattle.lines.proofs.laws.line_laws_hold.Needs as need
 

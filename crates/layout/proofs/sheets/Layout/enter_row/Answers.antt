@@ -1,3 +1,4 @@
+-- What the search leaves to show of `enter_row`.
 use mathlib.Core.Path.{refl}
 use Rattle.std.proofs.shelf.Results.{made-weaker}
 use Rattle.reading.specs.Numbers.{threeOf}

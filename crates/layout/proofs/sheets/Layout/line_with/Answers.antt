@@ -1,3 +1,4 @@
+-- What the search leaves to show of `line_with`.
 use mathlib.Core.Bool.{true, false}
 use mathlib.Core.Path.{_≡_, refl, sym, _∙_, ap}
 use Rattle.std.specs.BTreeMap.{at}

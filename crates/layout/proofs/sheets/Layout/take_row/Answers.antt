@@ -1,3 +1,4 @@
+-- What the search leaves to show of `take_row`.
 use mathlib.Core.List.{[], _∷_, _++_, map}
 use mathlib.Core.Path.{sym, _∙_, ap, subst}
 use native.Mathlib.Omega.{arith}

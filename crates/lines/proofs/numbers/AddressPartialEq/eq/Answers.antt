@@ -1,3 +1,4 @@
+-- What the search leaves to show of `eq`.
 use mathlib.Core.Path.{ap}
 use Rattle.std.proofs.shelf.Ways.{decides-eqb}
 use Rattle.lines.specs.declared.numbers.Address.{Address}

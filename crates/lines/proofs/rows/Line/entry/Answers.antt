@@ -1,3 +1,4 @@
+-- What the search leaves to show of `entry`.
 use mathlib.Core.Path.{sym}
 use native.Mathlib.Omega.{arith}
 use Rattle.std.proofs.shelf.Lists.{getD-past}

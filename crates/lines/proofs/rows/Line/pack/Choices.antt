@@ -1,3 +1,4 @@
+-- What the loop of `pack` keeps.
 use mathlib.Core.Path.{_≡_}
 use Prim.Native.Nat.{ℕ, _<_, _*_}
 use lib.ListN.{getD, length}

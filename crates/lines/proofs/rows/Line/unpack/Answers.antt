@@ -1,3 +1,4 @@
+-- What the search leaves to show of `unpack`.
 use borrow.Author.Count.{below-more}
 use borrow.Author.Needs.{needs}
 use mathlib.Core.Bool.{true, false}

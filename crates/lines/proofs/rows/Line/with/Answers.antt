@@ -1,3 +1,4 @@
+-- What the search leaves to show of `with`.
 use borrow.Author.Needs.{needs}
 use mathlib.Core.Path.{refl, sym}
 use native.Mathlib.Omega.{arith}

@@ -1,3 +1,4 @@
+-- What the search leaves to show of `without`.
 use borrow.Author.Needs.{needs}
 use mathlib.Core.Path.{_≡_, sym, _∙_, ap}
 use native.Mathlib.Omega.{arith}
@@ -6,7 +7,7 @@ use Rattle.std.proofs.shelf.Lists.{set-past}
 use Rattle.lines.specs.declared.entries.Entry.the-variants.{Absent}
 use Rattle.lines.specs.Lines.{clusterLeft}
 use Rattle.lines.proofs.rows.Line.without.Needs as need
-use Rattle.lines.proofs.rows.Line.without.Needs.{then-position-lt8, else-position-lt8, then-any-present, else-any-present}
+use Rattle.lines.proofs.rows.Line.without.Needs.{then-position-lt8, else-position-lt8}
 
 pub returns : need.returns
 returns c =

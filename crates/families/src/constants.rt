@@ -3,15 +3,15 @@ ghost use mathlib.Core.Path.{_≡_};
 ghost use Prim.Native.Nat.{_<_};
 ghost use Rattle.families.specs.Tables.{tableAt};
 
-pub(crate) fn entry(place: usize) -> u32
+pub(crate) fn table_at(place: usize) -> u32
     requires { ⌜ place < 1280 ⌝ }
     ensures { λ r. ⌜ r ≡ tableAt place ⌝ }
 {
-    ENTRIES[place]
+    NUMBERS[place]
 }
 
 // Written out, so that no call pays for the steps.
-const ENTRIES: [u32; 1280] = [
+const NUMBERS: [u32; 1280] = [
     0x0000_0001,
     0x0004_2021,
     0x0408_0601,
