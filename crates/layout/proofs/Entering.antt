@@ -1,5 +1,5 @@
 -- What entering one page's line does to the words of all pages.
-use mathlib.Core.Bool.{Bool, true, false, cond, not, _&&_}
+use mathlib.Core.Bool.{true, false, cond, not, _&&_}
 use mathlib.Core.List.{List}
 use mathlib.Core.Logic.{_⊎_, inl, ⊎-elim}
 use mathlib.Core.Path.{_≡_, sym, ap, _∙_, fun-ext, subst}
@@ -9,6 +9,7 @@ use borrow.Author.Tests.{clash, eqb-true, eq-eqb, ne-eqb}
 use lib.Dec.{eqb}
 use lib.ListN.{length, getD, set, replicate}
 use lib.Seq.{getD-set-same, getD-set-other}
+use Rattle.std.proofs.shelf.Tests.{and-parts}
 use Rattle.std.specs.BTreeMap.{at}
 use Rattle.std.specs.Keys.{unsigned}
 use Rattle.std.specs.Of.Box.{box-value}
@@ -74,10 +75,6 @@ module _ {Y Z : Type 0} (m n : BTreeMap ℕ (Box Line Y) Z) (p w : ℕ) (b : Box
       (λ (d : c ≡ clusterOf p → ⊥). (subst Blank (other c d) blank, λ e. d (sym e)))
       (same-or-not c (clusterOf p))
 
-and-right : (a b : Bool) → (a && b) ≡ true → b ≡ true
-and-right true b t = t
-and-right false b t = absurd (clash t)
-
 -- an entry set in a list of entries, by words
 word-set : (es : List Entry) (i k : ℕ) (x : Entry) → i < length es → wordOf (getD (set es i x) k Absent) ≡ cond (eqb k i) (wordOf x) (wordOf (getD es k Absent))
 word-set es i k x h =
@@ -93,7 +90,7 @@ own-unless-blank m c b found l full = ⊎-elim (λ o. o) (λ e. absurd (clash (s
 pub joined-with : {Y Z : Type 0} (m : BTreeMap ℕ (Box Line Y) Z) (p : ℕ) (b : Box Line Y) (x : Mapping) (l : Line) → Some b ≡ at unsigned m (clusterOf p) → isOf (clusterOf p) (box-value b) ≡ true → wordOf (entryAt (box-value b) (positionOf p)) ≡ 0 → Holds l (box-value b .cluster) (set (box-value b .entries) (positionOf p) (Present x)) → Joined m p (x .frame * 8 + x .rights) l
 joined-with m p b x l found mine free h =
     let old = box-value b in
-    let same : old .cluster ≡ clusterOf p = eqb-true (old .cluster) (clusterOf p) (and-right (not (isEmpty old)) _ mine) in
+    let same : old .cluster ≡ clusterOf p = eqb-true (old .cluster) (clusterOf p) (and-parts (not (isEmpty old)) _ mine .1) in
     let within : positionOf p < length (old .entries) = omega (arith, old .ok .1) in
     let some : anyPresent (l .entries) ≡ true = ap anyPresent (h .entries) ∙ any-set (old .entries) (positionOf p) x within in
     record {

@@ -1,9 +1,10 @@
 -- Which entries are present, and the words that tell entries apart.
-use mathlib.Core.Bool.{Bool, true, false, not}
+use mathlib.Core.Bool.{true, false}
 use mathlib.Core.List.{List, [], _∷_}
-use mathlib.Core.Path.{_≡_, refl, sym, ap, _∙_}
+use mathlib.Core.Path.{_≡_, refl, ap, _∙_}
 use native.Mathlib.Omega.{arith}
 use Prim.Native.Nat.{ℕ, zero, suc, _^_, _<_}
+use borrow.Author.Tests.{not-true}
 use lib.ListN.{length, set, replicate}
 use Rattle.std.specs.Orderings.{Decides}
 use Rattle.lines.specs.declared.entries.Entry.{Entry}
@@ -25,10 +26,6 @@ none-left [] h = refl
 none-left (Absent ∷ es) h = ap (λ (xs : List Entry). Absent ∷ xs) (none-left es h)
 none-left (Has m ∷ es) h = let z : _≡_ {A = ℕ} 0 1 = cc in absurd (omega arith)
 
-flip : (b : Bool) → not b ≡ true → b ≡ false
-flip true t = sym t
-flip false t = refl
-
 -- a line with no entry is the empty line: its cluster is 0
 no-entry : (l : Line) → anyPresent (l .entries) ≡ false → l ≡ emptyLine
 no-entry l f = same-line l emptyLine zero-cluster (none-left (l .entries) f ∙ ap (λ n. replicate n Absent) (l .ok .1)) where
@@ -39,7 +36,7 @@ no-entry l f = same-line l emptyLine zero-cluster (none-left (l .entries) f ∙ 
   zero-cluster = omega (arith, bare)
 
 pub decides-empty : (l : Line) → Decides (isEmpty l) (l ≡ emptyLine)
-decides-empty l = (λ t. no-entry l (flip (anyPresent (l .entries)) t), λ e. ap isEmpty e)
+decides-empty l = (λ t. no-entry l (not-true (anyPresent (l .entries)) t), λ e. ap isEmpty e)
 
 pub word-lt : (e : Entry) → wordOf e < 2 ^ 37
 word-lt Absent = omega arith
