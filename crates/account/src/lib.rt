@@ -1,4 +1,6 @@
 // The printed account of a list of pages.
+#![tactic(auto)]
+
 mod families_of;
 mod hex;
 mod lines_of;

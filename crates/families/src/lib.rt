@@ -1,4 +1,6 @@
 // Hash families: a number of 32 bits for each of three ways and each cluster.
+#![tactic(auto)]
+
 mod constants;
 pub mod digits;
 pub mod family;

@@ -1,4 +1,6 @@
 // What any code can ask of a family, known by its trait alone, and tests of the three families.
+#![tactic(auto)]
+
 ghost use Rattle.std.specs.Prelude.{◌≡◌, [], ◌∷◌};
 
 use families::Family;

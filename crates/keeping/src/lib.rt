@@ -1,4 +1,6 @@
 // Lines laid into any chunk store, read back, and the chunks given back.
+#![tactic(auto)]
+
 mod giving;
 mod laying;
 mod looking;

@@ -1,4 +1,6 @@
 // Reads a list of pages from standard input, a line `page,frame,rights` each, and prints its account.
+#![tactic(auto)]
+
 use std::io::Read;
 
 fn run(rt: &HostRuntime) -> anyhow::Result<()> {

@@ -1,4 +1,6 @@
 // Lays a list of pages out as lines, and says which of its lines are refused.
+#![tactic(auto)]
+
 mod blanks;
 mod calls;
 mod faults;

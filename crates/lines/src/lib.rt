@@ -1,4 +1,6 @@
 // Pages, their entries, the lines that hold eight of them, and the packed form of a line.
+#![tactic(auto)]
+
 pub mod edits;
 pub mod entries;
 pub mod faults;

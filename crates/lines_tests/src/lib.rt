@@ -1,4 +1,6 @@
 // Tests of pages, lines and packed lines: the ends of each range, damaged bytes, and edits of a line.
+#![tactic(auto)]
+
 #[cfg(test)]
 mod edited;
 #[cfg(test)]

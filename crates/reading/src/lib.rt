@@ -1,4 +1,6 @@
 // Reads lines of comma-separated decimal numbers out of bytes.
+#![tactic(auto)]
+
 mod cuts;
 mod fields;
 mod texts;

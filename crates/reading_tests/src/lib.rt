@@ -1,4 +1,6 @@
 // Tests of reading: tables of fields, lines and texts, and a loop over all lines of a text.
+#![tactic(auto)]
+
 ghost use Rattle.std.specs.Prelude.{◌≡◌, length};
 ghost use Rattle.reading.specs.Parts.{lines_of};
 

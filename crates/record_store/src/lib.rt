@@ -1,4 +1,6 @@
 // A chunk store on handed-over records of nine numbers, four rows to a chunk.
+#![tactic(auto)]
+
 mod records;
 pub mod store;
 

@@ -1,4 +1,6 @@
 // What a user of any chunk store can rely on, and what a lender of memory can.
+#![tactic(auto)]
+
 pub mod packs;
 pub mod records;
 pub mod users;

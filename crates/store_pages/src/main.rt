@@ -1,4 +1,6 @@
 // Reads a list of pages from standard input, a line `page,frame,rights` each, and prints the account of its lines in two stores.
+#![tactic(auto)]
+
 use std::io::Read;
 
 fn run(rt: &HostRuntime) -> anyhow::Result<()> {

@@ -1,4 +1,6 @@
 // What a chunk store means, why one refuses, and the marks that the makes share.
+#![tactic(auto)]
+
 pub mod faults;
 pub mod marks;
 pub mod store;

@@ -1,4 +1,6 @@
 // Tests of the two chunk stores: every scenario on any make, run on both, and what each leaves in its memory.
+#![tactic(auto)]
+
 #[cfg(test)]
 mod calls;
 #[cfg(test)]
