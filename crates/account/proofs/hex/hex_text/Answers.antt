@@ -9,7 +9,7 @@ pub loop-byte-preserved : goal.loop-byte-preserved
 loop-byte-preserved c =
     let bs = c.args.bytes.now in
     let i = c.loop-byte.byte-index in
-    c.in-ok-push-byte.ensures
+    c.in_ok-push_byte.ensures
     ∙ ap (λ (xs : List ℕ). xs ++ hex_of (get_or bs i 0 ∷ [])) c.loop-byte.invariant
     ∙ sym (ap hex_of (take_more bs i 0 (omega arith)) ∙ hex_append (take i bs) (get_or bs i 0 ∷ []))
 

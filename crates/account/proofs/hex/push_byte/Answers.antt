@@ -8,8 +8,8 @@ pub returns : goal.returns
 returns c =
     let a = c.args.byte / 16 in
     let b = c.args.byte % 16 in
-    let one = c.in-ok-push.ensures in
-    let two = c.in-ok-push-2.ensures in
+    let one = c.in_ok-push.ensures in
+    let two = c.in_ok-push-2.ensures in
     let low : c.digit.result < 128 = subst (λ n. n < 128) (sym c.digit.ensures) (digit_ascii a (omega arith)) in
     let low2 : c.digit-2.result < 128 = subst (λ n. n < 128) (sym c.digit-2.ensures) (digit_ascii b (omega arith)) in
     let first = one.bytes ∙ ap (λ (xs : List ℕ). string_bytes c.args.text.now ++ xs) (one.ascii low ∙ ap (λ (n : ℕ). n ∷ []) c.digit.ensures) in

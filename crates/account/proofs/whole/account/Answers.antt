@@ -2,4 +2,4 @@
 use Rattle.account.proofs.whole.account.Goals as goal
 
 pub returns : goal.returns
-returns c = record { layout = c.in-ok-layout.layout; laid_out = c.in-ok-layout.ensures; is = c.in-ok-text.ensures }
+returns c = record { layout = c.in_ok-layout.layout; laid_out = c.in_ok-layout.ensures; is = c.in_ok-text.ensures }

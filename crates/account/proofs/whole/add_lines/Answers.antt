@@ -10,7 +10,7 @@ loop-line-preserved c =
     let old = string_bytes c.loop-line.text in
     let later = lines_text (iter_rest c.next.new.self) in
     ap (λ (xs : List ℕ). xs ++ later)
-    (c.in-ok-push-str.ensures.bytes ∙ ap (λ (xs : List ℕ). old ++ xs) (c.as-str.ensures.value ∙ c.in-ok-account.ensures ∙ ap line_text c.deref.ensures))
+    (c.in_ok-push_str.ensures.bytes ∙ ap (λ (xs : List ℕ). old ++ xs) (c.as_str.ensures.value ∙ c.in_ok-account.ensures ∙ ap line_text c.deref.ensures))
     ∙ append_assoc old _ later
     ∙ ap (λ (xs : List ℕ). old ++ xs) (sym (ap lines_text c.in-Some.ensures.steps))
     ∙ c.loop-line.invariant

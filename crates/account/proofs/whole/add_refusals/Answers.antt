@@ -8,7 +8,7 @@ pub loop-refusal-preserved : goal.loop-refusal-preserved
 loop-refusal-preserved c =
     let old = string_bytes c.loop-refusal.text in
     let later = refusals_text (drop (c.loop-refusal.refusal-index + 1) c.args.refused.now) in
-    ap (λ (xs : List ℕ). xs ++ later) (c.in-ok-push-str.ensures.bytes ∙ ap (λ (xs : List ℕ). old ++ xs) (c.as-str.ensures.value ∙ c.in-ok-account.ensures))
+    ap (λ (xs : List ℕ). xs ++ later) (c.in_ok-push_str.ensures.bytes ∙ ap (λ (xs : List ℕ). old ++ xs) (c.as_str.ensures.value ∙ c.in_ok-account.ensures))
     ∙ append_assoc old _ later
     ∙ ap (λ (xs : List ℕ). old ++ xs) (sym (at_drop_more refusals_text c.args.refused.now c.loop-refusal.refusal-index _ (omega arith)))
     ∙ c.loop-refusal.invariant

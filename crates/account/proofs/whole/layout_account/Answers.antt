@@ -10,12 +10,12 @@ returns c =
     let a = lines_text (values t.lines) in
     let b = refusals_text (vec_items t.refused) in
     let e : List ℕ = totals_text t.pages (btree_map_len t.lines) (vec_len t.refused) in
-    let lines : string_bytes c.add-lines.new.text ≡ a = c.in-ok-add-lines.ensures ∙ ap (λ (xs : List ℕ). xs ++ a) c.new-text.ensures.bytes in
-    let refused : string_bytes c.add-refusals.new.text ≡ a ++ b =
-    c.in-ok-add-refusals.ensures ∙ ap (λ xs. string_bytes c.add-lines.new.text ++ refusals_text xs) c.as-slice.ensures.value ∙ ap (λ (xs : List ℕ). xs ++ b) lines in
-    let totals : string_bytes c.in-ok-totals.totals ≡ e =
-    c.in-ok-totals.ensures ∙ ap (λ n. totals_text t.pages n c.len-refused.result) c.len-lines.ensures ∙ ap (totals_text t.pages (btree_map_len t.lines)) c.len-refused.ensures in
-    c.in-ok-push-str.ensures.bytes
-    ∙ ap (λ (xs : List ℕ). string_bytes c.add-refusals.new.text ++ xs) (c.as-str.ensures.value ∙ totals)
+    let lines : string_bytes c.add_lines.new.text ≡ a = c.in_ok-add_lines.ensures ∙ ap (λ (xs : List ℕ). xs ++ a) c.new-text.ensures.bytes in
+    let refused : string_bytes c.add_refusals.new.text ≡ a ++ b =
+    c.in_ok-add_refusals.ensures ∙ ap (λ xs. string_bytes c.add_lines.new.text ++ refusals_text xs) c.as_slice.ensures.value ∙ ap (λ (xs : List ℕ). xs ++ b) lines in
+    let totals : string_bytes c.in_ok-totals.totals ≡ e =
+    c.in_ok-totals.ensures ∙ ap (λ n. totals_text t.pages n c.len-refused.result) c.len-lines.ensures ∙ ap (totals_text t.pages (btree_map_len t.lines)) c.len-refused.ensures in
+    c.in_ok-push_str.ensures.bytes
+    ∙ ap (λ (xs : List ℕ). string_bytes c.add_refusals.new.text ++ xs) (c.as_str.ensures.value ∙ totals)
     ∙ ap (λ (xs : List ℕ). xs ++ e) refused
     ∙ append_assoc a b e

@@ -4,4 +4,4 @@ use Rattle.families.specs.Rotations.{rotated}
 use Rattle.families.proofs.rotation.rotated.Goals as goal
 
 pub returns : goal.returns
-returns c = c.rotate-left.ensures ∙ rotated c.args.by c.args.x c.requires c.ranges.x.fits
+returns c = c.rotate_left.ensures ∙ rotated c.args.by c.args.x c.requires c.ranges.x.fits

@@ -11,7 +11,7 @@ loop-chunk-preserved g c =
     let cs = c.args.chunks.now in
     let i = c.loop-chunk.chunk-index in
     let now = c.loop-chunk.store in
-    let given = given_anyway _ (m now) _ _ c.give-back.result (g.S.ChunkStore.bounded now) c.give-back.ensures.said c.give-back.ensures.after in
+    let given = given_anyway _ (m now) _ _ c.give_back.result (g.S.ChunkStore.bounded now) c.give_back.ensures.said c.give_back.ensures.after in
     ap (λ t. all_given t (drop (i + 1) cs)) given ∙ sym (at_drop_more (all_given (m now)) cs i 0 (omega arith)) ∙ c.loop-chunk.invariant
 
 pub returns : goal.returns

@@ -10,8 +10,8 @@ use Rattle.keeping.proofs.Placing.{laid_more, laid_all}
 use Rattle.keeping.proofs.Rounding.{rows_pos, row_inside, chunks_next}
 use Rattle.keeping.proofs.laying.lay.Goals as goal
 
-pub lay-line-requires : goal.lay-line-requires
-lay-line-requires g c =
+pub lay_line-requires : goal.lay_line-requires
+lay_line-requires g c =
     let rows = g.S.ChunkStore.rows in
     let pos = rows_pos rows g.S.ChunkStore.power in
     let inv = c.loop-k.invariant in
@@ -29,11 +29,11 @@ loop-k-preserved g c =
     let inv = c.loop-k.invariant in
     let pos = rows_pos rows g.S.ChunkStore.power in
     let line = get_or_read ls k c.index-lines-k.result c.loop-k-test.true c.index-lines-k.is empty_line in
-    let did = c.in-default.ensures.cases in
+    let did = c.in_default.ensures.cases in
     let long = c.loop-k.chunks.ok.0 in
-    let more = laid_more rows (m c.args.store.now) ls k (m c.loop-k.store) (vec_items c.loop-k.chunks) (m c.lay-line.new.store) (vec_items c.lay-line.new.chunks) c.index-lines-k.result pos (g.S.ChunkStore.bounded c.loop-k.store) inv.0 (omega arith) line did in
+    let more = laid_more rows (m c.args.store.now) ls k (m c.loop-k.store) (vec_items c.loop-k.chunks) (m c.lay_line.new.store) (vec_items c.lay_line.new.chunks) c.index-lines-k.result pos (g.S.ChunkStore.bounded c.loop-k.store) inv.0 (omega arith) line did in
     let next = chunks_next rows k pos in
-    let after = c.lay-line.new.chunks.ok.0 in
+    let after = c.lay_line.new.chunks.ok.0 in
     (more.0, omega arith, search rules)
 
 pub returns : goal.returns

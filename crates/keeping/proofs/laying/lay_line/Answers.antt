@@ -5,7 +5,7 @@ use Rattle.keeping.proofs.laying.lay_line.Goals as goal
 
 pub returns : goal.returns
 returns g c =
-    let between = g.S.ChunkStore.model c.take-for.new.store in
-    let took = c.in-ok-take-for.ensures in
-    let put = c.put-line.ensures ∙ ap (line_put g.S.ChunkStore.rows c.args.k c.args.line.now between) c.as-slice.ensures.value in
+    let between = g.S.ChunkStore.model c.take_for.new.store in
+    let took = c.in_ok-take_for.ensures in
+    let put = c.put_line.ensures ∙ ap (line_put g.S.ChunkStore.rows c.args.k c.args.line.now between) c.as_slice.ensures.value in
     record { cases = record { between = between; opened = took.cases; store = put }; cap = took.cap }

@@ -11,6 +11,6 @@ returns g c =
     let k = c.args.k in
     let first : k % rows ≡ 0 = search rules in
     let many : length (vec_items c.args.chunks.now) ≡ chunks_for rows k = search rules in
-    let t = c.in-ok-chunk.ensures.after in
-    let r = took-ready rows k _ _ _ _ c.in-ok-chunk.chunk (rows_pos rows g.S.ChunkStore.power) first many t.0 t.1 c.push-reserved.ensures.items in
+    let t = c.in_ok-chunk.ensures.after in
+    let r = took-ready rows k _ _ _ _ c.in_ok-chunk.chunk (rows_pos rows g.S.ChunkStore.power) first many t.0 t.1 c.push_reserved.ensures.items in
     record { cases = r.0; ready = r.1; cap = search rules }

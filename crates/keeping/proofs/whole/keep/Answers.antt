@@ -5,9 +5,9 @@ use Rattle.keeping.proofs.Placing.{laid_standing}
 use Rattle.keeping.proofs.Rounding.{rows_pos}
 use Rattle.keeping.proofs.whole.keep.Goals as goal
 
-pub count-same-same-requires : goal.count-same-same-requires
-count-same-same-requires g c =
+pub count_same-same-requires : goal.count_same-same-requires
+count_same-same-requires g c =
     let laid = c.lay-rows.ensures.laid in
     let stand = laid_standing _ _ c.args.lines.now c.lay-rows.result.0 _ _ (rows_pos _ g.S.ChunkStore.power) (omega arith) laid in
-    let v = c.as-slice.ensures.value in
+    let v = c.as_slice.ensures.value in
     rw (v, sub-zero) stand

@@ -20,12 +20,12 @@ loop-cluster-preserved c =
     let rows = lines_of c.args.list.now in
     let m = c.loop-cluster.lines in
     let n = c.insert.new.self in
-    let cs = c.as-slice-cluster-items.result.now in
+    let cs = c.as_slice-cluster-items.result.now in
     let k : ℕ = get_or cs c.loop-cluster.cluster-index 0 in
-    let b = c.in-ok-new.field-0 in
-    let put = c.in-ok-insert.ensures.inserted.3 c.loop-cluster.invariant.loose.ordered in
+    let b = c.in_ok-new.field-0 in
+    let put = c.in_ok-insert.ensures.inserted.3 c.loop-cluster.invariant.loose.ordered in
     let other : (q : ℕ) → (q ≡ k → ⊥) → get nat_cmp n q ≡ get nat_cmp m q = λ q d. put.3 q (unsigned_tied q k ∙ ne_eqb q k d) in
-    let empty : is_empty (box_value b) ≡ true = ap is_empty c.in-ok-new.ensures.ok ∙ ap (λ es. not (any_present es)) c.empty.ensures.entries in
+    let empty : is_empty (box_value b) ≡ true = ap is_empty c.in_ok-new.ensures.ok ∙ ap (λ es. not (any_present es)) c.empty.ensures.entries in
     let all : All (Awaited rows) cs =
-    subst (All (Awaited rows)) (sym c.as-slice-cluster-items.ensures.value) (all_shuffled (Awaited rows) _ _ c.sort.ensures.permutation c.in-ok-clusters.ensures) in
+    subst (All (Awaited rows)) (sym c.as_slice-cluster-items.ensures.value) (all_shuffled (Awaited rows) _ _ c.sort.ensures.permutation c.in_ok-clusters.ensures) in
     ready_more rows m n k b put.0 put.2 other empty (All-get_or (Awaited rows) cs c.loop-cluster.cluster-index 0 (omega arith) all) c.loop-cluster.invariant

@@ -10,8 +10,8 @@ loop-row-preserved c =
     found_none (lines_of c.args.list.now) (lines_of c.loop-row.left.now) c.in-Some.row.now (lines_of c.in-Some.rest.now) (vec_items c.loop-row.clusters)
     c.in-Some.ensures.lines c.loop-row.invariant
 
-pub loop-row-preserved-in-ok-push : goal.loop-row-preserved-in-ok-push
-loop-row-preserved-in-ok-push c =
+pub loop-row-preserved-in_ok-push : goal.loop-row-preserved-in_ok-push
+loop-row-preserved-in_ok-push c =
     let good = good_row (three_of c.in-Some.row.now) c.in-Ok.asked c.cluster.result c.in-Ok.ensures c.cluster.ensures in
     found_more (lines_of c.args.list.now) (lines_of c.loop-row.left.now) c.in-Some.row.now (lines_of c.in-Some.rest.now) (vec_items c.loop-row.clusters)
-    c.in-Some.ensures.lines c.loop-row.invariant (vec_items c.push.new.self) c.cluster.result c.in-ok-push.ensures.items good
+    c.in-Some.ensures.lines c.loop-row.invariant (vec_items c.push.new.self) c.cluster.result c.in_ok-push.ensures.items good

@@ -5,13 +5,13 @@ use Rattle.layout.proofs.calls.lay_out.Goals as goal
 
 pub loop-row-init : goal.loop-row-init
 loop-row-init c =
-    begun c.args.list.now (record { lines = c.in-ok-blank-lines.field-0; pages = 0; refused = c.new.result })
-    c.in-ok-blank-lines.ensures c.new.ensures.items c.new.ensures.len refl
+    begun c.args.list.now (record { lines = c.in_ok-blank_lines.field-0; pages = 0; refused = c.new.result })
+    c.in_ok-blank_lines.ensures c.new.ensures.items c.new.ensures.len refl
 
 pub loop-row-preserved : goal.loop-row-preserved
 loop-row-preserved c =
-    one_more c.args.list.now c.loop-row.layout c.take-row.new.self c.loop-row.line c.loop-row.left.now c.in-Some.row.now c.in-Some.rest.now
-    c.loop-row.invariant c.in-Some.ensures c.in-ok-take-row.ensures
+    one_more c.args.list.now c.loop-row.layout c.take_row.new.self c.loop-row.line c.loop-row.left.now c.in-Some.row.now c.in-Some.rest.now
+    c.loop-row.invariant c.in-Some.ensures c.in_ok-take_row.ensures
 
 pub returns : goal.returns
-returns c = ended c.args.list.now c.loop-row.layout c.loop-row.line c.loop-row.left.now c.loop-row.invariant c.in-default.ensures
+returns c = ended c.args.list.now c.loop-row.layout c.loop-row.line c.loop-row.left.now c.loop-row.invariant c.in_default.ensures

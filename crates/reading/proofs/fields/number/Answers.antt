@@ -4,19 +4,19 @@ use Rattle.std.proofs.lemmas.Bool.{eqb-false}
 use Rattle.reading.proofs.Digits.{value_small, digit_small, read_more, read_all, read_none}
 use Rattle.reading.proofs.fields.number.Goals as goal
 
-pub overflow-mul-value : goal.overflow-mul-value
-overflow-mul-value c = omega (arith, value_small c.loop-byte.invariant (omega arith) (omega arith))
+pub overflow_mul-value : goal.overflow_mul-value
+overflow_mul-value c = omega (arith, value_small c.loop-byte.invariant (omega arith) (omega arith))
 
-pub overflow-add-value : goal.overflow-add-value
-overflow-add-value c =
-    omega (arith, value_small c.loop-byte.invariant (omega arith) (omega arith), digit_small (get_or c.args.field.now c.loop-byte.byte-index 0) _ (sym c.in-ok-value.ensures))
+pub overflow_add-value : goal.overflow_add-value
+overflow_add-value c =
+    omega (arith, value_small c.loop-byte.invariant (omega arith) (omega arith), digit_small (get_or c.args.field.now c.loop-byte.byte-index 0) _ (sym c.in_ok-value.ensures))
 
 pub loop-byte-preserved : goal.loop-byte-preserved
-loop-byte-preserved c = read_more c.loop-byte.invariant _ c.loop-byte-test.true (sym c.in-ok-value.ensures)
+loop-byte-preserved c = read_more c.loop-byte.invariant _ c.loop-byte-test.true (sym c.in_ok-value.ensures)
 
-pub returns-in-err-value : goal.returns-in-err-value
-returns-in-err-value c = c.from-residual.ensures ∙ sym (read_none _ _ c.loop-byte-test.true (sym c.in-err-value.ensures))
+pub returns-in_err-value : goal.returns-in_err-value
+returns-in_err-value c = c.from_residual.ensures ∙ sym (read_none _ _ c.loop-byte-test.true (sym c.in_err-value.ensures))
 
 pub returns : goal.returns
 returns c =
-    read_all c.loop-byte.invariant c.loop-byte-test.false (omega (arith, eqb-false _ 0 (sym c.if-is-empty.ensures))) c.if-field-gt-MOST-DIGITS.false
+    read_all c.loop-byte.invariant c.loop-byte-test.false (omega (arith, eqb-false _ 0 (sym c.if-is_empty.ensures))) c.if-field-gt-MOST_DIGITS.false

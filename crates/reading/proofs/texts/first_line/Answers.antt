@@ -5,9 +5,9 @@ use Rattle.std.proofs.lemmas.Bool.{eqb-true, eqb-false}
 use Rattle.reading.proofs.Parting.{first_cut}
 use Rattle.reading.proofs.texts.first_line.Goals as goal
 
-pub returns-then-is-empty : goal.returns-then-is-empty
-returns-then-is-empty c = nil_from_length _ (eqb-true _ 0 (sym c.if-is-empty.ensures))
+pub returns-then-is_empty : goal.returns-then-is_empty
+returns-then-is_empty c = nil_from_length _ (eqb-true _ 0 (sym c.if-is_empty.ensures))
 
 pub returns : goal.returns
 returns c =
-    simp c.unwrap-or.ensures (first_cut _ _ _ _ refl c.cut.ensures (omega (arith, eqb-false _ 0 (sym c.if-is-empty.ensures))))
+    simp c.unwrap_or.ensures (first_cut _ _ _ _ refl c.cut.ensures (omega (arith, eqb-false _ 0 (sym c.if-is_empty.ensures))))

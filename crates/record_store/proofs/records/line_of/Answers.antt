@@ -16,12 +16,12 @@ loop-k-preserved c =
           (ap word_of (get_or-set_same c.loop-k.entries k c.in-Some.entry Absent here) ∙ c.in-Some.ensures),
     )
 
-pub returns-in-default : goal.returns-in-default
-returns-in-default c =
+pub returns-in_default : goal.returns-in_default
+returns-in_default c =
     let ns = c.args.numbers.now in
     let k : ℕ = c.loop-k.k in
     holds_nothing c.empty.result c.empty.ensures
-    ∙ sym (recorded_none ns (λ l e. c.in-default.ensures (get_or l.entries k Absent) (record_word l ns k e c.loop-k-test.true)))
+    ∙ sym (recorded_none ns (λ l e. c.in_default.ensures (get_or l.entries k Absent) (record_word l ns k e c.loop-k-test.true)))
 
 pub returns-in-Some-new : goal.returns-in-Some-new
 returns-in-Some-new c =

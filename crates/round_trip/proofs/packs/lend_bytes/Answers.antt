@@ -10,10 +10,10 @@ pub returns : goal.returns
 returns c =
     let made = c.new-store.ensures in
     let free = ap (λ s. s.out) made.model in
-    let left = c.leave-bytes.ensures in
+    let left = c.leave_bytes.ensures in
     let mem = c.args.mem.now in
     record {
       said = left.said ∙ ap take_refusal free;
-      memory = ◌∙◌ {b = c.leave-bytes.new.store.mem.now} (search rules)
+      memory = ◌∙◌ {b = c.leave_bytes.new.store.mem.now} (search rules)
           (left.memory ∙ fresh (λ free k m. bytes_after free k m c.args.line.now) _ _ (chunk_count mem) _ mem free made.marks.1 made.memory);
     }

@@ -19,15 +19,15 @@ row_taken rows out c r f =
 pub returns : goal.returns
 returns g c =
     let s = g.S.ChunkStore.model c.args.store.now in
-    let k = c.in-ok-chunk.chunk in
-    let took = c.in-ok-chunk.ensures.after in
-    let did = c.write-and-read-done.ensures in
-    let ok = is_ok c.write-and-read-done.result in
+    let k = c.in_ok-chunk.chunk in
+    let took = c.in_ok-chunk.ensures.after in
+    let did = c.write_and_read-done.ensures in
+    let ok = is_ok c.write_and_read-done.result in
     let rows = g.S.ChunkStore.rows in
     record {
       said = did.said ∙ ap (λ t. row_refusal rows t.out k c.args.row) took.1 ∙ row_taken rows s.out k c.args.row took.0;
       after =
-          c.in-ok-give-back.ensures.after
+          c.in_ok-give_back.ensures.after
           ∙ ap (λ t. given_back t k) (did.after ∙ ap (λ t. cond ok (written t k c.args.row c.args.line.now) t) took.1)
           ∙ back_again rows s k c.args.row c.args.line.now ok (g.S.ChunkStore.bounded c.args.store.now) took.0.1;
       back = did.back;

@@ -9,7 +9,7 @@ pub loop-line-preserved : goal.loop-line-preserved
 loop-line-preserved c =
     let old = vec_items c.loop-line.lines in
     let later = map box_value (iter_rest c.next.new.self) in
-    ap (λ (xs : List Line). xs ++ later) (c.in-ok-push.ensures.items ∙ ap (λ (x : Line). old ++ x ∷ []) c.deref.ensures)
+    ap (λ (xs : List Line). xs ++ later) (c.in_ok-push.ensures.items ∙ ap (λ (x : Line). old ++ x ∷ []) c.deref.ensures)
     ∙ append_assoc old _ later
     ∙ ap (λ (xs : List Line). old ++ xs) (sym (ap (map box_value) c.in-Some.ensures.steps))
     ∙ c.loop-line.invariant

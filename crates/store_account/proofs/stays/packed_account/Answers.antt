@@ -6,6 +6,6 @@ use Rattle.store_account.proofs.stays.packed_account.Goals as goal
 
 pub returns : goal.returns
 returns c =
-    let long : length c.as-mut-slice.result.now ≡ 20000 = search rules in
+    let long : length c.as_mut_slice.result.now ≡ 20000 = search rules in
     let free = ap (λ s. s.out) c.new-store.ensures.model ∙ ap (λ n. replicate (chunks_in 8192 n) false) long in
-    subst (λ out. IfOk c.stay-account.result (λ s. string_bytes s ≡ stay_text (codes "packed") 64 128 out (length c.args.lines.now))) free c.stay-account.ensures
+    subst (λ out. IfOk c.stay_account.result (λ s. string_bytes s ≡ stay_text (codes "packed") 64 128 out (length c.args.lines.now))) free c.stay_account.ensures

@@ -7,8 +7,8 @@ use Rattle.store_account.proofs.whole.store_account.Goals as goal
 
 pub returns : goal.returns
 returns c =
-    let layout = c.in-ok-layout.layout in
-    let many = ap length c.in-ok-lines.ensures ∙ length-map (values layout.lines) box_value in
-    let packed = c.in-ok-packed.ensures ∙ ap packed_text (ap length c.as-slice.ensures.value ∙ many) in
-    let record-text = c.in-ok-record.ensures ∙ ap record_text (ap length c.as-slice-2.ensures.value ∙ many) in
-    record { layout = layout; laid_out = c.in-ok-layout.ensures; is = search rules }
+    let layout = c.in_ok-layout.layout in
+    let many = ap length c.in_ok-lines.ensures ∙ length-map (values layout.lines) box_value in
+    let packed = c.in_ok-packed.ensures ∙ ap packed_text (ap length c.as_slice.ensures.value ∙ many) in
+    let record-text = c.in_ok-record.ensures ∙ ap record_text (ap length c.as_slice-2.ensures.value ∙ many) in
+    record { layout = layout; laid_out = c.in_ok-layout.ensures; is = search rules }

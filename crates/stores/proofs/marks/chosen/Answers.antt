@@ -6,8 +6,8 @@ use Rattle.stores.proofs.marks.chosen.Goals as goal
 
 pub returns-else-high-out : goal.returns-else-high-out
 returns-else-high-out c =
-    let low = c.first-free.ensures in
-    let high = c.first-free-high.ensures in
+    let low = c.first_free.ensures in
+    let high = c.first_free-high.ensures in
     record {
       is = grind (arith, nat_tests);
       within = low.within (omega arith);

@@ -15,10 +15,10 @@ returns c =
     let n = c.insert.new.self in
     let p = c.args.page.number in
     let w : ℕ = c.args.mapping.frame * 8 + c.args.mapping.rights in
-    let b = c.in-ok-new.field-0 in
-    let put = c.in-ok-insert.ensures.inserted.3 c.requires.ordered in
+    let b = c.in_ok-new.field-0 in
+    let put = c.in_ok-insert.ensures.inserted.3 c.requires.ordered in
     let k = c.cluster.ensures in
-    let j = subst (Joined m p w) (sym c.in-ok-new.ensures.ok) c.in-Some.ensures in
+    let j = subst (Joined m p w) (sym c.in_ok-new.ensures.ok) c.in-Some.ensures in
     let here : get nat_cmp n (cluster_of p) ≡ Some b = ap (λ q. get nat_cmp n q) (sym k) ∙ put.2 in
     let other : (q : ℕ) → (q ≡ cluster_of p → ⊥) → get nat_cmp n q ≡ get nat_cmp m q =
     λ q d. put.3 q (unsigned_tied q c.cluster.result ∙ ne_eqb q c.cluster.result (λ e. d (e ∙ k))) in
@@ -28,7 +28,7 @@ returns c =
       refused = refl;
     }
 
-pub returns-in-default : goal.returns-in-default
-returns-in-default c =
-    let has = c.in-default.ensures in
+pub returns-in_default : goal.returns-in_default
+returns-in_default c =
+    let has = c.in_default.ensures in
     record { lines = (has, refl, refl, has_word c.args.self.now.lines c.args.page.number has); pages = refl; refused = refl }

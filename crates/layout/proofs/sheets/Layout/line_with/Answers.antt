@@ -17,11 +17,11 @@ returns c =
     let b = c.in-Some.line.now in
     let found : Some b ≡ get nat_cmp m (cluster_of p) =
     c.in-Some.ensures.finds c.cluster.result refl c.requires.ordered ∙ ap (get nat_cmp m) c.cluster.ensures in
-    let full : is_empty (box_value b) ≡ false = ap is_empty (sym c.deref.ensures) ∙ sym c.is-empty.ensures ∙ c.if-is-empty.false in
+    let full : is_empty (box_value b) ≡ false = ap is_empty (sym c.deref.ensures) ∙ sym c.is_empty.ensures ∙ c.if-is_empty.false in
     let mine : is_of (cluster_of p) (box_value b) ≡ true = own_unless_blank m (cluster_of p) b found c.requires full in
     let free : word_of (entry_at (box_value b) (position_of p)) ≡ 0 =
     sym (ap word_of (c.entry.ensures ∙ ap (λ (l : Line). entry_at l c.position-position.result) c.deref-2.ensures ∙ ap (entry_at (box_value b)) c.position-position.ensures))
-    ∙ ap word_of c.in-default-entry.is in
+    ∙ ap word_of c.in_default-entry.is in
     let d = c.deref-3.ensures in
     let held : Holds c.with.result (box_value b).cluster (set (box_value b).entries (position_of p) (Present c.args.mapping)) = record {
       cluster = c.with.ensures.cluster ∙ ap (λ (l : Line). l.cluster) d;
@@ -30,12 +30,12 @@ returns c =
     } in
     joined_with m p b c.args.mapping c.with.result found mine free held
 
-pub returns-then-is-empty : goal.returns-then-is-empty
-returns-then-is-empty c =
+pub returns-then-is_empty : goal.returns-then-is_empty
+returns-then-is_empty c =
     let m = c.args.self.now.lines in
     let p = c.args.page.number in
     let b = c.in-Some.line.now in
     let found : Some b ≡ get nat_cmp m (cluster_of p) =
     c.in-Some.ensures.finds c.cluster.result refl c.requires.ordered ∙ ap (get nat_cmp m) c.cluster.ensures in
-    let blank : is_empty (box_value b) ≡ true = ap is_empty (sym c.deref.ensures) ∙ sym c.is-empty.ensures ∙ c.if-is-empty.true in
-    joined_blank m p b c.args.mapping c.only-then-is-empty.result found blank c.only-then-is-empty.ensures
+    let blank : is_empty (box_value b) ≡ true = ap is_empty (sym c.deref.ensures) ∙ sym c.is_empty.ensures ∙ c.if-is_empty.true in
+    joined_blank m p b c.args.mapping c.only-then-is_empty.result found blank c.only-then-is_empty.ensures

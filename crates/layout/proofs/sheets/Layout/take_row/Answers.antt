@@ -9,14 +9,14 @@ use Rattle.layout.specs.Steps.{Answered}
 use Rattle.layout.proofs.Answering.{noted_some}
 use Rattle.layout.proofs.sheets.Layout.take_row.Goals as goal
 
-pub returns-in-ok-push : goal.returns-in-ok-push
-returns-in-ok-push c =
+pub returns-in_ok-push : goal.returns-in_ok-push
+returns-in_ok-push c =
     let m = c.args.self.now.lines in
-    let n = c.enter-row.new.self.lines in
+    let n = c.enter_row.new.self.lines in
     let t = three_of c.args.row.now in
-    let a : Answered m t (Err c.in-Err.fault) n = subst (λ s. Answered m t s n) c.in-Err.is c.in-ok-enter-row.ensures.lines in
-    let kept = c.in-ok-enter-row.ensures.refused in
-    let pushed = c.in-ok-push.ensures in
+    let a : Answered m t (Err c.in-Err.fault) n = subst (λ s. Answered m t s n) c.in-Err.is c.in_ok-enter_row.ensures.lines in
+    let kept = c.in_ok-enter_row.ensures.refused in
+    let pushed = c.in_ok-push.ensures in
     record {
       loose = subst Loose (sym a.2) c.requires.loose;
       filled = a.4;
@@ -26,5 +26,5 @@ returns-in-ok-push c =
           ∙ map_push refusal (vec_items c.args.self.now.refused) _
           ∙ ap (λ x. map refusal (vec_items c.args.self.now.refused) ++ (c.args.line, x) ∷ []) a.0
           ∙ ap (λ xs. map refusal (vec_items c.args.self.now.refused) ++ xs) (sym (noted_some c.args.line (row_refusal (word_in m) t) a.1));
-      pages = omega (arith, pushed.len, ap vec_len kept, c.in-ok-enter-row.ensures.pages);
+      pages = omega (arith, pushed.len, ap vec_len kept, c.in_ok-enter_row.ensures.pages);
     }

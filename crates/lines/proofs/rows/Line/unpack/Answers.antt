@@ -27,35 +27,35 @@ returns-then-bytes-ne64 c =
     let r = refused c.args.bytes.now (λ l e. c.if-bytes-ne64.true (sym (ap length e) ∙ length-packed l)) in
     record { said = r.0; back = r.1 }
 
-pub returns-in-default : goal.returns-in-default
-returns-in-default c =
+pub returns-in_default : goal.returns-in_default
+returns-in_default c =
     let k : ℕ = c.loop-k.k in
     let r = refused c.args.bytes.now (λ l e.
-    c.in-default.ensures (get_or l.entries k Absent)
-    (sym (packed_word_low l k) ∙ ap (λ w. w % 2 ^ content_bits) (sym (packed-word_at l c.args.bytes.now e k c.loop-k-test.true) ∙ sym c.word-at-word.ensures.value))) in
+    c.in_default.ensures (get_or l.entries k Absent)
+    (sym (packed_word_low l k) ∙ ap (λ w. w % 2 ^ content_bits) (sym (packed-word_at l c.args.bytes.now e k c.loop-k-test.true) ∙ sym c.word_at-word.ensures.value))) in
     record { said = r.0; back = r.1 }
 
 pub loop-k-preserved : goal.loop-k-preserved
 loop-k-preserved c =
     let k : ℕ = c.loop-k.k in
     let n : ℕ = c.loop-k.cluster in
-    let t : ℕ = c.word-at-word.result / 2 ^ content_bits in
+    let t : ℕ = c.word_at-word.result / 2 ^ content_bits in
     let small : t < 2 ^ cluster_bits = search rules in
     let shl : t * 2 ^ (cluster_bits * k) % 2 ^ 64 ≡ t * 2 ^ (cluster_bits * k) = shl_whole t cluster_bits (cluster_bits * k) 64 small (omega arith) in
     let here : k < length c.loop-k.entries = omega arith in (
       length-set c.loop-k.entries k c.in-Some.entry ∙ c.loop-k.invariant.0,
       simp shl (parts_more cluster_bits n t k c.loop-k.invariant.1 small),
       simp shl (below_more _ _ (λ i h. part_below cluster_bits n t k i h ∙ c.loop-k.invariant.2 i h)
-          (part_here cluster_bits n t k c.loop-k.invariant.1 small ∙ ap (λ w. w / 2 ^ content_bits) c.word-at-word.ensures.value)),
+          (part_here cluster_bits n t k c.loop-k.invariant.1 small ∙ ap (λ w. w / 2 ^ content_bits) c.word_at-word.ensures.value)),
       below_more _ _
           (λ i h. let ne : i ≢ k = omega arith in ap word_of (get_or-set_other c.loop-k.entries k i c.in-Some.entry Absent ne) ∙ c.loop-k.invariant.3 i h)
-          (ap word_of (get_or-set_same c.loop-k.entries k c.in-Some.entry Absent here) ∙ c.in-Some.ensures ∙ ap (λ w. w % 2 ^ content_bits) c.word-at-word.ensures.value),
+          (ap word_of (get_or-set_same c.loop-k.entries k c.in-Some.entry Absent here) ∙ c.in-Some.ensures ∙ ap (λ w. w % 2 ^ content_bits) c.word_at-word.ensures.value),
     )
 
 pub returns : goal.returns
 returns c =
     let bs : List ℕ = c.args.bytes.now in
     let d = read bs c.loop-k.cluster c.loop-k.k c.loop-k.entries c.loop-k-test.false c.loop-k.auto.k-end c.loop-k.invariant in
-    let made = unpacked_read bs c.loop-k.cluster c.loop-k.entries c.if-bytes-ne64.false (λ i. omega (arith, c.type-inv.bytes i)) d c.new.result c.new.ensures in
-    let said : Unpacked bs c.ok-or.result = subst (Unpacked bs) (sym c.ok-or.ensures.value) made in
+    let made = unpacked_read bs c.loop-k.cluster c.loop-k.entries c.if-bytes-ne64.false (λ i. omega (arith, c.type_inv.bytes i)) d c.new.result c.new.ensures in
+    let said : Unpacked bs c.ok_or.result = subst (Unpacked bs) (sym c.ok_or.ensures.value) made in
     record { said = said; back = unpacks_back _ bs said }

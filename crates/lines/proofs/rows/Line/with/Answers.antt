@@ -11,5 +11,5 @@ returns-then-position-ge8 c = record {
   entries = sym (set_past c.args.self.now.entries c.args.position (Present c.args.mapping) (omega (arith, c.args.self.now.ok.1)));
 }
 
-pub invariant-of-result : goal.invariant-of-result
-invariant-of-result c = ((search rules, search rules, λ _. any_set c.args.self.now.entries c.args.position c.args.mapping (omega arith)), tt)
+pub invariant_of-result : goal.invariant_of-result
+invariant_of-result c = ((search rules, search rules, λ _. any_set c.args.self.now.entries c.args.position c.args.mapping (omega arith)), tt)

@@ -14,5 +14,5 @@ returns c =
       | then-position-lt8 w ↦ w.entries-is
       | else-position-lt8 w ↦ w.entries-is ∙ sym (set_past l.entries c.args.position Absent (omega (arith, l.ok.1)))
     ] in
-    let left : c.if-any-present.cluster ≡ cluster_left l.cluster c.if-position-lt8.entries = search rules in
+    let left : c.if-any_present.cluster ≡ cluster_left l.cluster c.if-position-lt8.entries = search rules in
     record { cluster = left ∙ ap (cluster_left l.cluster) cleared; entries = cleared }

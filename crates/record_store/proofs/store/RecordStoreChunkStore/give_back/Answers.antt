@@ -7,10 +7,10 @@ use Rattle.record_store.proofs.store.RecordStoreChunkStore.give_back.Goals as go
 pub returns : goal.returns
 returns c =
     let s = c.args.self.now in
-    let did = c.free-chunk.ensures in
+    let did = c.free_chunk.ensures in
     record {
       said = did.said;
-      after = give-back-means rows_per_chunk chunk_count line_at s.marks _ s.mem.now _ c.args.chunk (is_ok c.free-chunk.result) did.marks did.memory;
+      after = give-back-means rows_per_chunk chunk_count line_at s.marks _ s.mem.now _ c.args.chunk (is_ok c.free_chunk.result) did.marks did.memory;
       marks = did.marks;
       memory = did.memory;
       refused = did.refused;

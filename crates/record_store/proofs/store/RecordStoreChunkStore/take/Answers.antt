@@ -9,13 +9,13 @@ pub returns : goal.returns
 returns c =
     let m = c.args.self.now.marks in
     let mem = c.args.self.now.mem.now in
-    let did = c.take-chunk.ensures in
+    let did = c.take_chunk.ensures in
     record {
       said = did.said;
-      after = take-means rows_per_chunk chunk_count line_at chunk_cleared m _ mem _ c.take-chunk.result (λ k h. shown_taken m mem k (omega arith)) did.which did.memory;
+      after = take-means rows_per_chunk chunk_count line_at chunk_cleared m _ mem _ c.take_chunk.result (λ k h. shown_taken m mem k (omega arith)) did.which did.memory;
       which = did.which;
       memory = did.memory;
-      beyond = take_beyond rows_per_chunk chunk_count line_at beyond_chunks chunk_cleared m _ mem _ c.take-chunk.result (beyond_cleared mem) did.which did.memory;
+      beyond = take_beyond rows_per_chunk chunk_count line_at beyond_chunks chunk_cleared m _ mem _ c.take_chunk.result (beyond_cleared mem) did.which did.memory;
       refused = did.refused;
       named = did.named;
     }

@@ -12,13 +12,13 @@ returns c =
     let k = c.args.chunk in
     let row = c.args.row in
     let l = c.args.line.now in
-    let did = c.write-row.ensures in
+    let did = c.write_row.ensures in
     record {
       said = did.said;
-      after = write-means rows_per_chunk chunk_count line_at (row_replaced mem k row l) m _ mem _ k row l c.write-row.result (λ below out h. shown_written m mem k row l out h (omega arith)) did.said did.marks did.memory;
+      after = write-means rows_per_chunk chunk_count line_at (row_replaced mem k row l) m _ mem _ k row l c.write_row.result (λ below out h. shown_written m mem k row l out h (omega arith)) did.said did.marks did.memory;
       marks = did.marks;
       memory = did.memory;
-      beyond = write-beyond rows_per_chunk chunk_count line_at beyond_chunks (row_replaced mem k row l) m mem _ k row c.write-row.result (beyond_replaced mem k row l) did.said did.memory;
+      beyond = write-beyond rows_per_chunk chunk_count line_at beyond_chunks (row_replaced mem k row l) m mem _ k row c.write_row.result (beyond_replaced mem k row l) did.said did.memory;
       refused = did.refused;
       named = did.named;
     }

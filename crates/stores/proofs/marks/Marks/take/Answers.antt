@@ -15,6 +15,6 @@ returns c =
     let some = some_free _ k free in
     record {
       said = grind (arith, nat_tests, some);
-      after = (free, c.chosen-c.ensures.is ∙ ap (λ out. chosen out c.args.self.now.mark) is, c.mark-out.ensures);
+      after = (free, c.chosen-c.ensures.is ∙ ap (λ out. chosen out c.args.self.now.mark) is, c.mark_out.ensures);
       below = omega (arith, c.first-out.ensures.size);
     }
