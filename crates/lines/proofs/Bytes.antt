@@ -1,15 +1,13 @@
 -- Bytes and the one line that packs to them.
-use Rattle.std.proofs.Common.{◌≡◌, ℕ, ◌+◌, ◌*◌, ◌/◌, ◌%◌, ◌^◌, ◌<◌, List, length, get_or, Some, None, Ok, Err, Option, Result, sym, refl, ap, ◌∙◌, add-zero, arith, rules, MatchOption}
+use Rattle.std.proofs.Common.{◌≡◌, ℕ, ◌+◌, ◌*◌, ◌/◌, ◌%◌, ◌^◌, ◌<◌, List, length, get_or, Ok, Err, Result, sym, refl, ap, ◌∙◌, add-zero, arith, rules}
 use Rattle.std.proofs.lemmas.List.FromFn.{fill_by_all, length-map-range_with_len, get_or-map-range_with_len}
 use Rattle.std.proofs.lemmas.List.{ext_get_or}
-use Rattle.std.specs.Option.{ok_or}
 use Rattle.lines.specs.declared.entries.Entry.{Entry}
 use Rattle.lines.specs.declared.entries.Entry.TheVariants.{Absent}
 use Rattle.lines.specs.declared.faults.LineFault.{LineFault}
-use Rattle.lines.specs.declared.faults.LineFault.TheVariants.{NotALine}
 use Rattle.lines.specs.declared.rows.Line.{Line}
 use Rattle.lines.specs.Entries.{word_of}
-use Rattle.lines.specs.Lines.{entry_at, Holds, NoLine}
+use Rattle.lines.specs.Lines.{entry_at}
 use Rattle.lines.specs.Packs.{cluster_bits, content_bits, cluster_part, packed_word, byte_of, packed_byte, packed, word_at}
 use Rattle.lines.specs.Refusals.{Unpacked}
 use Rattle.lines.proofs.Parts.{same_parts}
@@ -54,16 +52,16 @@ pub record Read (bs : List ℕ) (c : ℕ) (es : List Entry) : Type 0 where
   pub parts : (i : ℕ) → i < 8 → cluster_part c i ≡ word_at bs i / 2 ^ content_bits
   pub words : (i : ℕ) → i < 8 → word_of (get_or es i Absent) ≡ word_at bs i % 2 ^ content_bits
 
--- a line that packs to the bytes holds what was read of them
-holds_read : (l : Line) (bs : List ℕ) (c : ℕ) (es : List Entry) → Read bs c es → packed l ≡ bs → Holds l c es
-holds_read l bs c es r e = record {
-  cluster =
-      same_parts cluster_bits 8 l.cluster c (omega arith) r.small
-      (λ i h. sym (packed_word_high l i) ∙ sym (ap (λ w. w / 2 ^ content_bits) (packed-word_at l bs e i h)) ∙ sym (r.parts i h));
-  entries =
-      ext_get_or Absent l.entries es (l.ok.1 ∙ sym r.eight)
-      (λ i h. let p : i < 8 = omega arith in same_word _ _ (sym (packed_word_low l i) ∙ sym (ap (λ w. w % 2 ^ content_bits) (packed-word_at l bs e i p)) ∙ sym (r.words i p)));
-}
+-- no other line packs to the bytes
+pub only_cluster : (l : Line) (bs : List ℕ) (c : ℕ) (es : List Entry) → Read bs c es → packed l ≡ bs → l.cluster ≡ c
+only_cluster l bs c es r e =
+    same_parts cluster_bits 8 l.cluster c (omega arith) r.small
+    (λ i h. sym (packed_word_high l i) ∙ sym (ap (λ w. w / 2 ^ content_bits) (packed-word_at l bs e i h)) ∙ sym (r.parts i h))
+
+pub only_entries : (l : Line) (bs : List ℕ) (c : ℕ) (es : List Entry) → Read bs c es → packed l ≡ bs → l.entries ≡ es
+only_entries l bs c es r e =
+    ext_get_or Absent l.entries es (l.ok.1 ∙ sym r.eight)
+    (λ i h. let p : i < 8 = omega arith in same_word _ _ (sym (packed_word_low l i) ∙ sym (ap (λ w. w % 2 ^ content_bits) (packed-word_at l bs e i p)) ∙ sym (r.words i p)))
 
 split_bytes : (bs : List ℕ) → ((i : ℕ) → get_or bs i 0 < 256) → (k j : ℕ) → j < 8 → byte_of (word_at bs k) j ≡ get_or bs (8 * k + j) 0
 split_bytes bs fit k j h =
@@ -77,13 +75,11 @@ split_bytes bs fit k j h =
     let f7 = fit (8 * k + 7) in
     search rules
 
--- the line that holds what was read packs to the bytes
-packs_back : (l : Line) (bs : List ℕ) (c : ℕ) (es : List Entry) → length bs ≡ 64 → ((i : ℕ) → get_or bs i 0 < 256) → Read bs c es → Holds l c es → packed l ≡ bs
+-- the line that was read packs to the bytes
+pub packs_back : (l : Line) (bs : List ℕ) → length bs ≡ 64 → ((i : ℕ) → get_or bs i 0 < 256) → Read bs l.cluster l.entries → packed l ≡ bs
 unfolding packed
-packs_back l bs c es long fit r held =
-    let part : (k : ℕ) → cluster_part l.cluster k ≡ cluster_part c k = λ k. ap (λ n. cluster_part n k) held.cluster in
-    let word : (k : ℕ) → word_of (entry_at l k) ≡ word_of (get_or es k Absent) = λ k. ap (λ xs. word_of (get_or xs k Absent)) held.entries in
-    let w : (k : ℕ) → k < 8 → packed_word l k ≡ word_at bs k = λ k h. omega (arith, part k, word k, r.parts k h, r.words k h) in
+packs_back l bs long fit r =
+    let w : (k : ℕ) → k < 8 → packed_word l k ≡ word_at bs k = λ k h. omega (arith, r.parts k h, r.words k h) in
     sym (fill_by_all (packed_byte l) bs 64 0 long (λ b h.
     let p : b / 8 < 8 = omega arith in
     let q : b % 8 < 8 = omega arith in
@@ -100,12 +96,7 @@ read_packed l = record {
 
 -- different lines pack differently
 pub packs_apart : (k l : Line) → packed k ≡ packed l → k ≡ l
-packs_apart k l e = let held = holds_read k _ _ _ (read_packed l) e in same_line k l held.cluster held.entries
-
--- bytes unpack to the line that holds what was read of them, or are refused where there is none
-pub unpacked_read : (bs : List ℕ) (c : ℕ) (es : List Entry) → length bs ≡ 64 → ((i : ℕ) → get_or bs i 0 < 256) → Read bs c es → (o : Option Line) → MatchOption o (NoLine c es) (λ l. Holds l c es) → Unpacked bs (ok_or o NotALine)
-unpacked_read bs c es long fit r (Some l) held = packs_back l bs c es long fit r held
-unpacked_read bs c es long fit r None none = (refl, λ l e. none l (holds_read l bs c es r e))
+packs_apart k l e = same_line k l (only_cluster k _ _ _ (read_packed l) e) (only_entries k _ _ _ (read_packed l) e)
 
 -- a packed line unpacks to itself
 pub unpacks_back : (r : Result Line LineFault) (bs : List ℕ) → Unpacked bs r → (l : Line) → packed l ≡ bs → r ≡ Ok l

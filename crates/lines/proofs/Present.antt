@@ -1,5 +1,6 @@
 -- Which entries are present, and the words that tell entries apart.
-use Rattle.std.proofs.Common.{◌≡◌, ℕ, zero, suc, ◌^◌, ◌<◌, true, false, List, [], ◌∷◌, length, set, replicate, Decides, refl, ap, ◌∙◌, arith}
+use Rattle.std.proofs.Common.{◌≡◌, ℕ, zero, suc, ◌^◌, ◌<◌, true, false, eqb, List, [], ◌∷◌, length, set, replicate, Decides, refl, ap, ◌∙◌, arith}
+use Rattle.std.proofs.lemmas.Bool.Decides.{Decides-eqb}
 use borrow.Author.Tests.{not-true}
 use Rattle.lines.specs.declared.entries.Entry.{Entry}
 use Rattle.lines.specs.declared.entries.Entry.TheVariants.{Absent, Present as Has}
@@ -41,3 +42,7 @@ same_word Absent Absent h = refl
 same_word Absent (Has n) h = absurd (omega arith)
 same_word (Has m) Absent h = absurd (omega arith)
 same_word (Has m) (Has n) h = ap Has (same_mapping m n (omega arith) (omega arith))
+
+-- entries are told apart by their words
+pub entry_decides : (e f : Entry) → Decides (eqb (word_of e) (word_of f)) (e ≡ f)
+entry_decides e f = let d = Decides-eqb (word_of e) (word_of f) in (λ t. same_word e f (d.0 t), λ p. d.1 (ap word_of p))

@@ -1,5 +1,5 @@
 -- The word of an entry.
-use Rattle.std.specs.Prelude.{◌≡◌, ℕ, ◌+◌, ◌*◌, Bool, true, false, List, [], ◌∷◌, ◌≢◌}
+use Rattle.std.specs.Prelude.{ℕ, ◌+◌, ◌*◌, Bool, true, false, List, [], ◌∷◌, ◌≢◌}
 use Rattle.lines.specs.declared.entries.Entry.{Entry}
 use Rattle.lines.specs.declared.entries.Entry.TheVariants.{Absent, Present}
 

@@ -2,7 +2,7 @@
 use Rattle.std.specs.Prelude.{◌≡◌, ℕ, zero, suc, ◌^◌, ◌<◌, true, List, [], ◌∷◌, length, refl}
 use Rattle.std.proofs.Math.Bool.{Bool-discrete, Bool-set}
 use mathlib.Core.HLevel.{Π_prop, ×₃_prop}
-use Rattle.std.proofs.Math.Logic.{Dec·and, Dec·of-iff}
+use Rattle.std.proofs.Math.Logic.Dec
 use Rattle.std.proofs.Common.{sym, subst, suc-ne-zero, arith}
 use Rattle.std.proofs.Math.Bridge.{le_prop}
 use Rattle.std.proofs.Math.Decide.{dec_le, dec_lt, ℕ_discrete}
@@ -31,13 +31,13 @@ below (suc n) P within d = elim (d n) [
 
 -- lists of one length
 listed : {A : Type 0} → Exhaustible A → (n : ℕ) → Within (λ (xs : List A). length xs ≡ n)
-listed {A} s zero P long d = Dec·of-iff (λ p. ([], p), λ h. nil h.0 h.1) (d [])
+listed {A} s zero P long d = Dec.of_iff (λ p. ([], p), λ h. nil h.0 h.1) (d [])
   where
     nil : (xs : List A) → P xs → P []
     nil [] p = p
     nil (x ∷ xs) p = absurd (suc-ne-zero _ (long (x ∷ xs) p))
 listed {A} s (suc n) P long d =
-    Dec·of-iff (λ h. (h.0 ∷ h.1.0, h.1.1), λ h. cons h.0 h.1)
+    Dec.of_iff (λ h. (h.0 ∷ h.1.0, h.1.1), λ h. cons h.0 h.1)
     (s (λ x. (xs : List A) × P (x ∷ xs)) (λ x. listed s n (λ xs. P (x ∷ xs)) (λ xs p. suc_inj (long (x ∷ xs) p)) (λ xs. d (x ∷ xs))))
   where
     cons : (xs : List A) → P xs → (x : A) × ((ys : List A) × P (x ∷ ys))
@@ -47,27 +47,27 @@ listed {A} s (suc n) P long d =
 -- pairs, each part in its range
 pairs : {A B : Type 0} {R : A → Type 0} {S : B → Type 0} → Within R → Within S → Within (λ (x : A × B). R x.0 × S x.1)
 pairs {B = B} s t P within d =
-    Dec·of-iff (λ h. ((h.0, h.1.0), h.1.1), λ h. (h.0.0, (h.0.1, h.1)))
+    Dec.of_iff (λ h. ((h.0, h.1.0), h.1.1), λ h. (h.0.0, (h.0.1, h.1)))
     (s (λ a. (b : B) × P (a, b)) (λ a h. (within (a, h.0) h.1).0) (λ a. t (λ b. P (a, b)) (λ b p. (within (a, b) p).1) (λ b. d (a, b))))
 
 -- a proposition that is decided
 decided : {A : Type 0} → IsProp A → Dec A → Exhaustible A
-decided one (yes a) P d = Dec·of-iff (λ p. (a, p), λ h. subst P (one h.0 a) h.1) (d a)
+decided one (yes a) P d = Dec.of_iff (λ p. (a, p), λ h. subst P (one h.0 a) h.1) (d a)
 decided one (no none) P d = no (λ h. none h.0)
 
 -- what meets a law that keeps to a range
 lawful : {A : Type 0} {R : A → Type 0} → Within R → (L : A → Type 0) → ((a : A) → L a → R a) → ((a : A) → IsProp (L a)) → ((a : A) → Dec (L a)) → Exhaustible ((a : A) × L a)
 lawful s L within one law P d =
-    Dec·of-iff (λ h. ((h.0, h.1.0), h.1.1), λ h. (h.0.0, (h.0.1, h.1)))
+    Dec.of_iff (λ h. ((h.0, h.1.0), h.1.1), λ h. (h.0.0, (h.0.1, h.1)))
     (s (λ a. (o : L a) × P (a, o)) (λ a h. within a h.0) (λ a. decided (one a) (law a) (λ o. P (a, o)) (λ o. d (a, o))))
 
 -- what is made of something exhaustible
 made : {A B : Type 0} → (f : A → B) (g : B → A) → ((b : B) → f (g b) ≡ b) → Exhaustible A → Exhaustible B
-made f g back s P d = Dec·of-iff (λ h. (f h.0, h.1), λ h. (g h.0, subst P (sym (back h.0)) h.1)) (s (λ a. P (f a)) (λ a. d (f a)))
+made f g back s P d = Dec.of_iff (λ h. (f h.0, h.1), λ h. (g h.0, subst P (sym (back h.0)) h.1)) (s (λ a. P (f a)) (λ a. d (f a)))
 
 -- three facts together
 three : {A B C : Type 0} → Dec A → Dec B → Dec C → Dec (A × B × C)
-three a b c = Dec·of-iff (λ h. (h.0, h.1.0, h.1.1), λ h. (h.0, (h.1, h.2))) (Dec·and a (Dec·and b c))
+three a b c = Dec.of_iff (λ h. (h.0, h.1.0, h.1.1), λ h. (h.0, (h.1, h.2))) (Dec.and a (Dec.and b c))
 
 -- that one fact implies another
 implied : {A B : Type 0} → Dec A → Dec B → Dec (A → B)
@@ -86,7 +86,7 @@ mapping_or_none =
 entry_or_none : Exhaustible Entry
 entry_or_none P d = elim (d Absent) [
   | yes p ↦ yes (Absent, p)
-  | no none ↦ Dec·of-iff (λ h. (Present h.0, h.1), λ h. present none h.0 h.1) (mapping_or_none (λ m. P (Present m)) (λ m. d (Present m)))
+  | no none ↦ Dec.of_iff (λ h. (Present h.0, h.1), λ h. present none h.0 h.1) (mapping_or_none (λ m. P (Present m)) (λ m. d (Present m)))
 ]
   where
     present : ¬ P Absent → (e : Entry) → P e → (m : Mapping) × P (Present m)

@@ -8,9 +8,9 @@ use crate::entries::{Entry, Mapping};
 use crate::numbers::Page;
 use crate::rows::Line;
 
-const CLUSTERS: u64 = 1 << 33;
+pub(crate) const CLUSTERS: u64 = 1 << 33;
 
-fn any_present(entries: &[Entry; 8]) -> bool
+pub(crate) fn any_present(entries: &[Entry; 8]) -> bool
     ensures { result ≡ any_present entries.now }
 {
     for entry in entries {

@@ -2,8 +2,7 @@
 ghost use Rattle.std.specs.Prelude.{◌≡◌, ◌^◌, ◌<◌, ◌≤◌, Decides, nat_eq};
 ghost use Rattle.std.specs.Ordering.{on, eq_of_both};
 ghost use Rattle.std.specs.Cmp.Rules.{comparing};
-ghost use Rattle.std.proofs.Common.{rules, arith};
-ghost use Rattle.std.specs.Cmp as Keys;
+ghost use Rattle.std.proofs.Common.{rules};
 
 // a frame of 4,096 bytes, with rights: the sum of 1 to read, 2 to write and 4 to execute
 #[derive(Clone, Copy, Eq)]
@@ -23,23 +22,12 @@ pub enum Entry {
 impl PartialEq for Mapping {
     ghost eq = { eq_of_both (on (λ v. v.frame) nat_eq) (on (λ v. v.rights) nat_eq) };
 
-    ghost laws = { Keys.partial_equiv_from_equiv (first_of (Prim.search (comparing, rules), Prim.grind (arith, Self.row.coded.inj))) };
+    ghost laws = { Prim.search (comparing, rules) };
 
-    fn eq(&self, other: &Mapping) -> bool {
+    fn eq(&self, other: &Mapping) -> bool
+        ensures value { result ≡ eq_of_both (on (λ v. v.frame) nat_eq) (on (λ v. v.rights) nat_eq) self.now other.now }
+        ensures decides { Decides result (self.now ≡ other.now) }
+    {
         self.frame == other.frame && self.rights == other.rights
-    }
-}
-
-impl PartialEq for Entry {
-    ghost equals = { λ a b t. Decides t (a ≡ b) };
-
-    ghost laws = { Keys.partial_equiv_from_equiv (Prim.search (comparing, rules)) };
-
-    fn eq(&self, other: &Entry) -> bool {
-        match (self, other) {
-            (Entry::Absent, Entry::Absent) => true,
-            (Entry::Present(a), Entry::Present(b)) => *a == *b,
-            _ => false,
-        }
     }
 }

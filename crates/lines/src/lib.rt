@@ -3,6 +3,7 @@
 
 pub mod edits;
 pub mod entries;
+pub mod equals;
 pub mod faults;
 pub mod laws;
 pub mod numbers;

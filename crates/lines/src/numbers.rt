@@ -2,8 +2,7 @@
 ghost use Rattle.std.specs.Prelude.{◌≡◌, ◌^◌, ◌<◌, Decides, nat_eq};
 ghost use Rattle.std.specs.Ordering.{on};
 ghost use Rattle.std.specs.Cmp.Rules.{comparing};
-ghost use Rattle.std.proofs.Common.{rules, arith};
-ghost use Rattle.std.specs.Cmp as Keys;
+ghost use Rattle.std.proofs.Common.{rules};
 
 // a bytecode address of a controller
 #[derive(Clone, Copy, Eq)]
@@ -22,9 +21,12 @@ pub struct Page {
 impl PartialEq for Address {
     ghost eq = { on (λ v. v.number) nat_eq };
 
-    ghost laws = { Keys.partial_equiv_from_equiv (first_of (Prim.search (comparing, rules), Prim.grind (arith, Self.row.coded.inj))) };
+    ghost laws = { Prim.search (comparing, rules) };
 
-    fn eq(&self, other: &Address) -> bool {
+    fn eq(&self, other: &Address) -> bool
+        ensures value { result ≡ on (λ v. v.number) nat_eq self.now other.now }
+        ensures decides { Decides result (self.now ≡ other.now) }
+    {
         self.number == other.number
     }
 }
@@ -32,9 +34,12 @@ impl PartialEq for Address {
 impl PartialEq for Page {
     ghost eq = { on (λ v. v.number) nat_eq };
 
-    ghost laws = { Keys.partial_equiv_from_equiv (first_of (Prim.search (comparing, rules), Prim.grind (arith, Self.row.coded.inj))) };
+    ghost laws = { Prim.search (comparing, rules) };
 
-    fn eq(&self, other: &Page) -> bool {
+    fn eq(&self, other: &Page) -> bool
+        ensures value { result ≡ on (λ v. v.number) nat_eq self.now other.now }
+        ensures decides { Decides result (self.now ≡ other.now) }
+    {
         self.number == other.number
     }
 }

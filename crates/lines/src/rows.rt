@@ -1,9 +1,10 @@
 // A line: one cluster's eight entries.
-ghost use Rattle.std.specs.Prelude.{◌≡◌, ◌^◌, ◌<◌, true, length, Decides};
-ghost use Rattle.lines.specs.Entries.{any_present};
+ghost use Rattle.std.specs.Prelude.{◌≡◌, ◌^◌, ◌<◌, true, length, Decides, nat_eq};
+ghost use Rattle.std.specs.Ordering.{on, eq_of_both};
+ghost use Rattle.std.specs.Cmp.Lexicographic.{pointwise, lists_equiv};
 ghost use Rattle.std.specs.Cmp.Rules.{comparing};
-ghost use Rattle.std.proofs.Common.{rules, arith};
-ghost use Rattle.std.specs.Cmp as Keys;
+ghost use Rattle.std.proofs.Common.{rules};
+ghost use Rattle.lines.specs.Entries.{any_present, word_of};
 
 use crate::entries::Entry;
 
@@ -16,11 +17,14 @@ pub struct Line {
 }
 
 impl PartialEq for Line {
-    ghost equals = { λ a b t. Decides t (a ≡ b) };
+    ghost eq = { eq_of_both (on (λ l. l.cluster) nat_eq) (on (λ l. l.entries) (pointwise (on word_of nat_eq))) };
 
-    ghost laws = { Keys.partial_equiv_from_equiv (first_of (Prim.search (comparing, rules), Prim.grind (arith, Self.row.coded.inj))) };
+    ghost laws = { Prim.search (comparing, lists_equiv, rules) depth 9 };
 
-    fn eq(&self, other: &Line) -> bool {
+    fn eq(&self, other: &Line) -> bool
+        ensures value { result ≡ eq_of_both (on (λ l. l.cluster) nat_eq) (on (λ l. l.entries) (pointwise (on word_of nat_eq))) self.now other.now }
+        ensures decides { Decides result (self.now ≡ other.now) }
+    {
         self.cluster == other.cluster && self.entries == other.entries
     }
 }

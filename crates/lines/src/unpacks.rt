@@ -5,6 +5,7 @@ ghost use Rattle.lines.specs.Entries.{word_of, NoEntry};
 ghost use Rattle.lines.specs.Packs.{content_bits, packed, word_at};
 ghost use Rattle.lines.specs.Refusals.{Unpacked};
 
+use crate::edits::{CLUSTERS, any_present};
 use crate::entries::Entry;
 use crate::faults::LineFault;
 use crate::packs::{CLUSTER_BITS, CONTENT_BITS};
@@ -45,6 +46,13 @@ impl Line {
             entries[k] = entry;
             cluster += (word >> CONTENT_BITS) << (CLUSTER_BITS * k);
         }
-        Line::new(cluster, entries).ok_or(LineFault::NotALine)
+        if cluster >= CLUSTERS {
+            return Err(LineFault::NotALine);
+        }
+        let present = any_present(&entries);
+        if cluster > 0 && !present {
+            return Err(LineFault::NotALine);
+        }
+        Ok(Line { cluster, entries })
     }
 }

@@ -1,14 +1,14 @@
 -- What the search leaves to show of `unpack`.
-use Rattle.std.proofs.Common.{◌≡◌, ℕ, ◌*◌, ◌/◌, ◌%◌, ◌^◌, ◌<◌, ◌≤◌, ◌≢◌, List, length, get_or, Ok, Err, sym, refl, ap, ◌∙◌, subst, arith, length-set, get_or-set_other, get_or-set_same, rules, below_more}
+use Rattle.std.proofs.Common.{◌≡◌, ℕ, ◌*◌, ◌/◌, ◌%◌, ◌^◌, ◌<◌, ◌≤◌, true, false, ◌≢◌, List, length, get_or, Ok, Err, sym, refl, ap, ◌∙◌, subst, arith, length-set, get_or-set_other, get_or-set_same, rules, below_more}
 use Rattle.std.proofs.lemmas.Nat.{shl_whole}
 use Rattle.lines.specs.declared.entries.Entry.{Entry}
 use Rattle.lines.specs.declared.entries.Entry.TheVariants.{Absent}
 use Rattle.lines.specs.declared.faults.LineFault.TheVariants.{NotALine}
 use Rattle.lines.specs.declared.rows.Line.{Line}
-use Rattle.lines.specs.Entries.{word_of}
+use Rattle.lines.specs.Entries.{word_of, any_present}
 use Rattle.lines.specs.Packs.{cluster_bits, content_bits, cluster_part, packed, word_at}
 use Rattle.lines.specs.Refusals.{Unpacked}
-use Rattle.lines.proofs.Bytes.{Read, length-packed, packed-word_at, packed_word_low, unpacked_read, unpacks_back}
+use Rattle.lines.proofs.Bytes.{Read, length-packed, packed-word_at, packed_word_low, only_cluster, only_entries, packs_back, unpacks_back}
 use Rattle.lines.proofs.Parts.{part_here, part_below, parts_more}
 use Rattle.lines.proofs.rows.Line.unpack.Goals as goal
 
@@ -52,10 +52,25 @@ loop-k-preserved c =
           (ap word_of (get_or-set_same c.loop-k.entries k c.in-Some.entry Absent here) ∙ c.in-Some.ensures ∙ ap (λ w. w % 2 ^ content_bits) c.word_at-word.ensures.value),
     )
 
+pub returns-then-cluster-ge-CLUSTERS : goal.returns-then-cluster-ge-CLUSTERS
+returns-then-cluster-ge-CLUSTERS c =
+    let d = read c.args.bytes.now c.loop-k.cluster c.loop-k.k c.loop-k.entries c.loop-k-test.false c.loop-k.auto.k-end c.loop-k.invariant in
+    let r = refused c.args.bytes.now (λ l e. omega (arith, only_cluster l _ _ _ d e, l.ok.0)) in
+    record { said = r.0; back = r.1 }
+
+pub returns-then-not-present : goal.returns-then-not-present
+returns-then-not-present c =
+    let d = read c.args.bytes.now c.loop-k.cluster c.loop-k.k c.loop-k.entries c.loop-k-test.false c.loop-k.auto.k-end c.loop-k.invariant in
+    let r = refused c.args.bytes.now (λ l e.
+    let full : any_present l.entries ≡ true = l.ok.2 (omega (arith, only_cluster l _ _ _ d e)) in
+    let none : false ≡ any_present c.loop-k.entries = c.if-not-present.ensures in
+    let same : any_present l.entries ≡ any_present c.loop-k.entries = ap any_present (only_entries l _ _ _ d e) in
+    let z : ◌≡◌ {A = ℕ} 0 1 = cc in
+    omega arith) in
+    record { said = r.0; back = r.1 }
+
 pub returns : goal.returns
 returns c =
-    let bs : List ℕ = c.args.bytes.now in
-    let d = read bs c.loop-k.cluster c.loop-k.k c.loop-k.entries c.loop-k-test.false c.loop-k.auto.k-end c.loop-k.invariant in
-    let made = unpacked_read bs c.loop-k.cluster c.loop-k.entries c.if-bytes-ne64.false (λ i. omega (arith, c.type_inv.bytes i)) d c.new.result c.new.ensures in
-    let said : Unpacked bs c.ok_or.result = subst (Unpacked bs) (sym c.ok_or.ensures.value) made in
-    record { said = said; back = unpacks_back _ bs said }
+    let d = read c.args.bytes.now c.loop-k.cluster c.loop-k.k c.loop-k.entries c.loop-k-test.false c.loop-k.auto.k-end c.loop-k.invariant in
+    let said = packs_back _ c.args.bytes.now c.if-bytes-ne64.false (λ i. omega (arith, c.type_inv.bytes i)) d in
+    record { said = said; back = unpacks_back (Ok _) c.args.bytes.now said }

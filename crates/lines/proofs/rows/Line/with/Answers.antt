@@ -12,4 +12,4 @@ returns-then-position-ge8 c = record {
 }
 
 pub invariant_of-result : goal.invariant_of-result
-invariant_of-result c = ((search rules, search rules, λ _. any_set c.args.self.now.entries c.args.position c.args.mapping (omega arith)), tt)
+invariant_of-result c = record { ok = (search rules, search rules, λ _. any_set c.args.self.now.entries c.args.position c.args.mapping (omega arith)) }
