@@ -2,8 +2,8 @@
 use Rattle.std.proofs.Common.{◌≡◌, ℕ, true, ◌⊎◌, List, [], ◌∷◌, ◌++◌, Some, None, Ok, box_value, Option, Box, sym, ap, ◌∙◌, subst, inl, inr, ⊎_elim}
 use mathlib.Core.Path.{fun_ext}
 use Rattle.std.proofs.ByRecursion.{All-push}
-use Rattle.std.proofs.lemmas.Map.Contents.{btree-map-empty}
-use Rattle.std.specs.BTreeMap.{IsOrdered, get, keys, values}
+use Rattle.std.specs.BTreeMap.{IsOrdered, IsEmpty, get, is_at}
+use Rattle.std.specs.Map.{lookup}
 use Rattle.std.specs.BTreeMap.{BTreeMap}
 use Rattle.std.specs.List.{AllByRecursion as All}
 use Rattle.lines.specs.declared.entries.Mapping.{Mapping}
@@ -38,13 +38,13 @@ module _ (all left : List (List ℕ)) (row : List ℕ) (rest : List (List ℕ)) 
       record { each = subst (All (Awaited all)) (sym pushed) (All-push (Awaited all) found c h.each here); later = found_none.later }
 
 module _ {Y : Type 0} (rows : List (List ℕ)) where
-  pub ready_none : (m : BTreeMap ℕ (Box Line Y)) → keys m ≡ [] → values m ≡ [] → Ready rows m
-  ready_none m k v =
-      let empty = btree-map-empty nat_cmp m k v in
+  pub ready_none : (m : BTreeMap ℕ (Box Line Y)) → IsEmpty m → IsOrdered nat_cmp m → Ready rows m
+  ready_none m none ordered =
+      let empty : (c : ℕ) → get nat_cmp m c ≡ None = λ c. ap (lookup (is_at (nat_cmp c))) none in
       record {
-        loose = record { ordered = empty.0; own = λ c. inl (subst (Own c) (sym (empty.1 c)) tt) };
-        pending = λ c e. absurd (subst Blank (empty.1 c) e);
-        book = fun_ext (λ p. ap (λ o. word_of (entry_in o (position_of p))) (empty.1 (cluster_of p)));
+        loose = record { ordered = ordered; own = λ c. inl (subst (Own c) (sym (empty c)) tt) };
+        pending = λ c e. absurd (subst Blank (empty c) e);
+        book = fun_ext (λ p. ap (λ o. word_of (entry_in o (position_of p))) (empty (cluster_of p)));
       }
 
   module _ (m n : BTreeMap ℕ (Box Line Y)) (c : ℕ) (b : Box Line Y)

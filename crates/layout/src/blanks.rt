@@ -30,7 +30,7 @@ pub(crate) fn blank_lines(heap: Global, list: &[u8]) -> Result<BTreeMap<u64, Box
     ensures { IfOk result (λ m. Ready (lines_of list.now) m) }
 {
     let mut clusters = clusters_of(heap, list)?;
-    clusters.sort();
+    clusters.sort()?;
     let mut lines = BTreeMap::new(heap);
     for cluster in clusters.as_slice() {
         lines.insert(*cluster, Box::new(heap, Line::empty())?)?;

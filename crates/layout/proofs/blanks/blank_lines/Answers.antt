@@ -13,7 +13,7 @@ use Rattle.layout.proofs.blanks.blank_lines.Goals as goal
 use Rattle.std.specs.Ordering.{nat_cmp}
 
 pub loop-cluster-init : goal.loop-cluster-init
-loop-cluster-init c = ready_none (lines_of c.args.list.now) c.new-lines.result c.new-lines.ensures.keys c.new-lines.ensures.vals
+loop-cluster-init c = ready_none (lines_of c.args.list.now) c.new-lines.result c.new-lines.ensures.empty c.new-lines.ensures.ordered
 
 pub loop-cluster-preserved : goal.loop-cluster-preserved
 loop-cluster-preserved c =
@@ -23,9 +23,9 @@ loop-cluster-preserved c =
     let cs = c.as_slice-cluster-items.result.now in
     let k : ℕ = get_or cs c.loop-cluster.cluster-index 0 in
     let b = c.in_ok-new.field-0 in
-    let put = c.in_ok-insert.ensures.inserted.3 c.loop-cluster.invariant.loose.ordered in
-    let other : (q : ℕ) → (q ≡ k → ⊥) → get nat_cmp n q ≡ get nat_cmp m q = λ q d. put.3 q (unsigned_tied q k ∙ ne_eqb q k d) in
+    let put = c.in_ok-insert.ensures.updates in
+    let other : (q : ℕ) → (q ≡ k → ⊥) → get nat_cmp n q ≡ get nat_cmp m q = λ q d. put.2 q (unsigned_tied k q ∙ ne_eqb k q (λ e. d (sym e))) in
     let empty : is_empty (box_value b) ≡ true = ap is_empty c.in_ok-new.ensures.ok ∙ ap (λ es. not (any_present es)) c.empty.ensures.entries in
     let all : All (Awaited rows) cs =
     subst (All (Awaited rows)) (sym c.as_slice-cluster-items.ensures.value) (all_shuffled (Awaited rows) _ _ c.sort.ensures.permutation c.in_ok-clusters.ensures) in
-    ready_more rows m n k b put.0 put.2 other empty (All-get_or (Awaited rows) cs c.loop-cluster.cluster-index 0 (omega arith) all) c.loop-cluster.invariant
+    ready_more rows m n k b c.in_ok-insert.ensures.ordered put.1 other empty (All-get_or (Awaited rows) cs c.loop-cluster.cluster-index 0 (omega arith) all) c.loop-cluster.invariant

@@ -16,14 +16,14 @@ returns c =
     let p = c.args.page.number in
     let w : ℕ = c.args.mapping.frame * 8 + c.args.mapping.rights in
     let b = c.in_ok-new.field-0 in
-    let put = c.in_ok-insert.ensures.inserted.3 c.requires.ordered in
+    let put = c.in_ok-insert.ensures.updates in
     let k = c.cluster.ensures in
     let j = subst (Joined m p w) (sym c.in_ok-new.ensures.ok) c.in-Some.ensures in
-    let here : get nat_cmp n (cluster_of p) ≡ Some b = ap (λ q. get nat_cmp n q) (sym k) ∙ put.2 in
+    let here : get nat_cmp n (cluster_of p) ≡ Some b = ap (λ q. get nat_cmp n q) (sym k) ∙ put.1 in
     let other : (q : ℕ) → (q ≡ cluster_of p → ⊥) → get nat_cmp n q ≡ get nat_cmp m q =
-    λ q d. put.3 q (unsigned_tied q c.cluster.result ∙ ne_eqb q c.cluster.result (λ e. d (e ∙ k))) in
+    λ q d. put.2 q (unsigned_tied c.cluster.result q ∙ ne_eqb c.cluster.result q (λ e. d (sym e ∙ k))) in
     record {
-      lines = (c.in-Some.ensures.free, record { ordered = put.0; own = entered_own m n p w b here other j c.requires.own }, entered_words m n p w b here other j, entered_filled m n p w b here other j);
+      lines = (c.in-Some.ensures.free, record { ordered = c.in_ok-insert.ensures.ordered; own = entered_own m n p w b here other j c.requires.own }, entered_words m n p w b here other j, entered_filled m n p w b here other j);
       pages = refl;
       refused = refl;
     }

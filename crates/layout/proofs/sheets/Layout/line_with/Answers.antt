@@ -1,5 +1,5 @@
 -- What the search leaves to show of `line_with`.
-use Rattle.std.proofs.Common.{◌≡◌, true, false, set, Some, box_value, sym, refl, ap, ◌∙◌}
+use Rattle.std.proofs.Common.{◌≡◌, true, false, set, Some, box_value, sym, ap, ◌∙◌}
 use Rattle.std.specs.BTreeMap.{get}
 use Rattle.lines.specs.declared.entries.Entry.TheVariants.{Present}
 use Rattle.lines.specs.declared.rows.Line.{Line}
@@ -16,7 +16,7 @@ returns c =
     let p = c.args.page.number in
     let b = c.in-Some.line.now in
     let found : Some b ≡ get nat_cmp m (cluster_of p) =
-    c.in-Some.ensures.finds c.cluster.result refl c.requires.ordered ∙ ap (get nat_cmp m) c.cluster.ensures in
+    c.in-Some.ensures.value ∙ ap (get nat_cmp m) c.cluster.ensures in
     let full : is_empty (box_value b) ≡ false = ap is_empty (sym c.deref.ensures) ∙ sym c.is_empty.ensures ∙ c.if-is_empty.false in
     let mine : is_of (cluster_of p) (box_value b) ≡ true = own_unless_blank m (cluster_of p) b found c.requires full in
     let free : word_of (entry_at (box_value b) (position_of p)) ≡ 0 =
@@ -36,6 +36,6 @@ returns-then-is_empty c =
     let p = c.args.page.number in
     let b = c.in-Some.line.now in
     let found : Some b ≡ get nat_cmp m (cluster_of p) =
-    c.in-Some.ensures.finds c.cluster.result refl c.requires.ordered ∙ ap (get nat_cmp m) c.cluster.ensures in
+    c.in-Some.ensures.value ∙ ap (get nat_cmp m) c.cluster.ensures in
     let blank : is_empty (box_value b) ≡ true = ap is_empty (sym c.deref.ensures) ∙ sym c.is_empty.ensures ∙ c.if-is_empty.true in
     joined_blank m p b c.args.mapping c.only-then-is_empty.result found blank c.only-then-is_empty.ensures

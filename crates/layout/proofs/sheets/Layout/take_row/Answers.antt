@@ -9,14 +9,14 @@ use Rattle.layout.specs.Steps.{Answered}
 use Rattle.layout.proofs.Answering.{noted_some}
 use Rattle.layout.proofs.sheets.Layout.take_row.Goals as goal
 
-pub returns-in_ok-push : goal.returns-in_ok-push
-returns-in_ok-push c =
+pub returns-in_ok-push-in-Err : goal.returns-in_ok-push-in-Err
+returns-in_ok-push-in-Err c =
     let m = c.args.self.now.lines in
     let n = c.enter_row.new.self.lines in
     let t = three_of c.args.row.now in
     let a : Answered m t (Err c.in-Err.fault) n = subst (λ s. Answered m t s n) c.in-Err.is c.in_ok-enter_row.ensures.lines in
     let kept = c.in_ok-enter_row.ensures.refused in
-    let pushed = c.in_ok-push.ensures in
+    let pushed = c.in_ok-push-in-Err.ensures in
     record {
       loose = subst Loose (sym a.2) c.requires.loose;
       filled = a.4;
