@@ -1,9 +1,8 @@
 -- What the loop of `add_lines` keeps.
 use Rattle.std.proofs.Common.{◌≡◌, ◌++◌, string_bytes}
 use Rattle.std.specs.BTreeMap.{values}
-use Rattle.std.specs.Slice.Iter.{iter_rest}
 use Rattle.account.specs.Accounts.{lines_text}
 use Rattle.account.proofs.whole.add_lines.Given as goal
 
 abbrev pub invariant-loop-line : goal.invariant-loop-line
-invariant-loop-line l = string_bytes l.text ++ lines_text (iter_rest l.line-iterator) ≡ string_bytes l.initial.text ++ lines_text (values l.layout.lines)
+invariant-loop-line l = string_bytes l.text ++ lines_text l.line-iterator ≡ string_bytes l.initial.text ++ lines_text (values l.layout.lines)

@@ -14,7 +14,7 @@ returns c =
     let refused : string_bytes c.add_refusals.new.text ≡ a ++ b =
     c.in_ok-add_refusals.ensures ∙ ap (λ xs. string_bytes c.add_lines.new.text ++ refusals_text xs) c.as_slice.ensures.value ∙ ap (λ (xs : List ℕ). xs ++ b) lines in
     let totals : string_bytes c.in_ok-totals.totals ≡ e =
-    c.in_ok-totals.ensures ∙ ap (λ n. totals_text t.pages n c.len-refused.result) c.len-lines.ensures ∙ ap (totals_text t.pages (btree_map_len t.lines)) c.len-refused.ensures in
+    c.in_ok-totals.ensures ∙ ap (λ n. totals_text t.pages n c.len-refused.result) c.len-lines.ensures.len ∙ ap (totals_text t.pages (btree_map_len t.lines)) c.len-refused.ensures in
     c.in_ok-push_str.ensures.bytes
     ∙ ap (λ (xs : List ℕ). string_bytes c.add_refusals.new.text ++ xs) (c.as_str.ensures.value ∙ totals)
     ∙ ap (λ (xs : List ℕ). xs ++ e) refused
