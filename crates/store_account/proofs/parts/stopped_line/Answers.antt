@@ -9,9 +9,9 @@ use Rattle.store_account.proofs.parts.stopped_line.Goals as goal
 pub returns-in-None : goal.returns-in-None
 returns-in-None c = let e = not_stopped c.args.left in search rules
 
-pub returns-in_ok-answer : goal.returns-in_ok-answer
-returns-in_ok-answer c =
+pub returns-in_ok-answer-in-Some : goal.returns-in_ok-answer-in-Some
+returns-in_ok-answer-in-Some c =
     let left = c.args.left in
-    let answer = ap (λ xs. stop_text xs left) (c.as_str.ensures.value ∙ c.in_ok-answer.ensures) in
+    let answer = ap (λ xs. stop_text xs left) (c.as_str.ensures.value ∙ c.in_ok-answer-in-Some.ensures) in
     let stopped = ap (λ o. stopped_text (stop_refusal o) left) c.in-Some.is ∙ stopped_by c.in-Some.fault left in
     IfOk-weaker c.stop_line.result _ _ (λ s e. e ∙ answer ∙ sym stopped) c.stop_line.ensures
