@@ -145,13 +145,13 @@ mod tests {
     #[test]
     fn cuts(rt: HostRuntime) -> Result<(), Fail> {
         let (part, rest) = cut(b"a,b,c", b',');
-        assert_eq!(rt; part, b"a");
-        assert_eq!(rt; rest.ok_or("no rest")?, b"b,c");
+        assert_eq!(rt; part, b"a".as_slice());
+        assert_eq!(rt; rest.ok_or("no rest")?, b"b,c".as_slice());
         let (part, rest) = cut(b",", b',');
         assert!(rt; part.is_empty());
         assert!(rt; rest.ok_or("no rest")?.is_empty());
         let (part, rest) = cut(b"abc", b',');
-        assert_eq!(rt; part, b"abc");
+        assert_eq!(rt; part, b"abc".as_slice());
         assert!(rt; rest.is_none());
         Ok(())
     }
