@@ -129,16 +129,16 @@ pub(crate) fn refuses_rows<S: ChunkStore>(
     Ok(())
 }
 
-fn repeats<T: PartialEq + Debug + Copy>(
-    rt: &impl Abort,
-    cells: &[T],
-    pattern: &[T],
-) -> Result<(), Fail> {
+// What follows the cells is named where one of them differs.
+fn repeats<T: PartialEq + Debug + Copy>(rt: &impl Abort, cells: &[T], pattern: &[T], left: usize) {
     assert!(rt; pattern.len() > 0);
     for (i, cell) in cells.iter().enumerate() {
-        assert_eq!(rt; *cell, pattern[i % pattern.len()], "cell {i}");
+        assert_eq!(rt;
+            *cell,
+            pattern[i % pattern.len()],
+            "cell {i}, {left} cells before the end"
+        );
     }
-    Ok(())
 }
 
 // A memory has these runs one after the other, each so many cells long and repeating a pattern.
@@ -151,7 +151,7 @@ pub(crate) fn has_runs<T: PartialEq + Debug + Copy>(
     for (length, pattern) in runs {
         assert!(rt; *length <= left.len());
         let (cells, rest) = left.split_at(*length);
-        repeats(rt, cells, pattern).note(format_args!("{} cells before the end", left.len()))?;
+        repeats(rt, cells, pattern, left.len());
         left = rest;
     }
     assert!(rt; left.is_empty());
