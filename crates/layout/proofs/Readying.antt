@@ -5,7 +5,7 @@ use Rattle.std.proofs.ByRecursion.{All-push}
 use Rattle.std.specs.BTreeMap.{IsOrdered, IsEmpty, get, is_at}
 use Rattle.std.specs.Map.{lookup}
 use Rattle.std.specs.BTreeMap.{BTreeMap}
-use Rattle.std.specs.List.{AllByRecursion as All}
+use Rattle.std.specs.List.{AllByRecursion}
 use Rattle.lines.specs.declared.entries.Mapping.{Mapping}
 use Rattle.lines.specs.declared.numbers.Page.{Page}
 use Rattle.lines.specs.declared.rows.Line.{Line}
@@ -25,7 +25,7 @@ good_row (Some t) a c h e = (h.0, sym (e ∙ ap cluster_of h.1))
 
 -- the list awaits the clusters found so far, and each that its lines that are left await
 pub record Found (all left : List (List ℕ)) (found : List ℕ) : Type 0 where
-  pub each : All (Awaited all) found
+  pub each : AllByRecursion (Awaited all) found
   pub later : (c : ℕ) → Awaited left c → Awaited all c
 
 module _ (all left : List (List ℕ)) (row : List ℕ) (rest : List (List ℕ)) (found : List ℕ) (first : left ≡ row ∷ rest) (h : Found all left found) where
@@ -35,7 +35,7 @@ module _ (all left : List (List ℕ)) (row : List ℕ) (rest : List (List ℕ)) 
   pub found_more : (more : List ℕ) (c : ℕ) → more ≡ found ++ c ∷ [] → Good c (three_of row) → Found all rest more
   found_more more c pushed good =
       let here : Awaited all c = h.later c (subst (λ rows. Awaited rows c) (sym first) (inl good)) in
-      record { each = subst (All (Awaited all)) (sym pushed) (All-push (Awaited all) found c h.each here); later = found_none.later }
+      record { each = subst (AllByRecursion (Awaited all)) (sym pushed) (All-push (Awaited all) found c h.each here); later = found_none.later }
 
 module _ {Y : Type 0} (rows : List (List ℕ)) where
   pub ready_none : (m : BTreeMap ℕ (Box Line Y)) → IsEmpty m → IsOrdered nat_cmp m → Ready rows m

@@ -1,6 +1,6 @@
 // An empty line for each cluster of a list, made before the list is laid out.
 ghost use Rattle.std.specs.Prelude.{IfOk};
-ghost use Rattle.std.specs.List.{AllByRecursion as All};
+ghost use Rattle.std.specs.List.{AllByRecursion};
 ghost use Rattle.reading.specs.Parts.{lines_of};
 ghost use Rattle.layout.specs.Blanks.{Awaited, Ready};
 
@@ -12,7 +12,7 @@ use std::collections::BTreeMap;
 
 // The cluster of each good line of the list.
 fn clusters_of(heap: Global, list: &[u8]) -> Result<Vec<u64>, AllocError>
-    ensures { IfOk result (λ v. All (Awaited (lines_of list.now)) v.items) }
+    ensures { IfOk result (λ v. AllByRecursion (Awaited (lines_of list.now)) v.items) }
 {
     let mut clusters = Vec::new(heap);
     let mut left = list;

@@ -3,7 +3,7 @@ use Rattle.std.proofs.Common.{◌≡◌, ℕ, true, not, get_or, box_value, sym,
 use Rattle.std.proofs.ByRecursion.{All-get_or, all_shuffled}
 use Rattle.std.specs.BTreeMap.{get}
 use Rattle.std.specs.Cmp.{unsigned_tied}
-use Rattle.std.specs.List.{AllByRecursion as All}
+use Rattle.std.specs.List.{AllByRecursion}
 use Rattle.lines.specs.Entries.{any_present}
 use Rattle.lines.specs.Lines.{is_empty}
 use Rattle.reading.specs.Parts.{lines_of}
@@ -26,6 +26,6 @@ loop-cluster-preserved c =
     let put = c.in_ok-insert.ensures.updates in
     let other : (q : ℕ) → (q ≡ k → ⊥) → get nat_cmp n q ≡ get nat_cmp m q = λ q d. put.2 q (unsigned_tied k q ∙ ne_eqb k q (λ e. d (sym e))) in
     let empty : is_empty (box_value b) ≡ true = ap is_empty c.in_ok-new.ensures.ok ∙ ap (λ es. not (any_present es)) c.empty.ensures.entries in
-    let all : All (Awaited rows) cs =
-    subst (All (Awaited rows)) (sym c.as_slice-cluster-items.ensures.value) (all_shuffled (Awaited rows) _ _ c.sort.ensures.permutation c.in_ok-clusters.ensures) in
+    let all : AllByRecursion (Awaited rows) cs =
+    subst (AllByRecursion (Awaited rows)) (sym c.as_slice-cluster-items.ensures.value) (all_shuffled (Awaited rows) _ _ c.sort.ensures.permutation c.in_ok-clusters.ensures) in
     ready_more rows m n k b c.in_ok-insert.ensures.ordered put.1 other empty (All-get_or (Awaited rows) cs c.loop-cluster.cluster-index 0 (omega arith) all) c.loop-cluster.invariant
