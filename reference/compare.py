@@ -2,7 +2,7 @@
 
   python3 reference/compare.py [LISTS] [SEED]
 
-Build the programs first (`rt check lay_pages store_pages`). Exit status 1 where an account differs.
+Run the programs once first, as the README does, so that they are built. Exit status 1 where an account differs.
 """
 import os
 import random
@@ -12,7 +12,7 @@ import sys
 import pages
 import stores
 
-PROGRAMS = os.path.join(os.path.dirname(os.path.abspath(__file__)), "..", "target", "bin")
+CRATES = os.path.join(os.path.dirname(os.path.abspath(__file__)), "..", "crates")
 
 
 def random_number(rng, top):
@@ -43,7 +43,7 @@ def random_list(rng):
 
 
 def differs(program, text, expected):
-    got = subprocess.run([os.path.join(PROGRAMS, program)], input=text, stdout=subprocess.PIPE, check=True).stdout
+    got = subprocess.run([os.path.join(CRATES, program, "out", program)], input=text, stdout=subprocess.PIPE, check=True).stdout
     return got != expected.encode()
 
 
