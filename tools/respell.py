@@ -80,6 +80,7 @@ NAMES = {
     "freeCount": "free_count",
     "freeFrom": "free_from",
     "getD-zeros": "get_or-zeros",
+    "give-back-means": "give_back_means",
     "giveBackRefusal": "give_back_refusal",
     "given-anyway": "given_anyway",
     "given-not-out": "given_not_out",
@@ -220,6 +221,7 @@ NAMES = {
     "table-number-small": "table_number_small",
     "table-small": "table_small",
     "tableNumber": "table_number",
+    "take-means": "take_means",
     "take-most": "take_most",
     "takeRefusal": "take_refusal",
     "three-fields": "three_fields",
@@ -227,6 +229,7 @@ NAMES = {
     "threeOf": "three_of",
     "told-positive": "told_positive",
     "toldText": "told_text",
+    "took-ready": "took_ready",
     "totalsText": "totals_text",
     "tripRefusal": "trip_refusal",
     "two-values": "two_values",
@@ -238,8 +241,13 @@ NAMES = {
     "view-bounded": "view_bounded",
     "view-given": "view_given",
     "view-new": "view_new",
+    "view-taken": "view_taken",
+    "view-written": "view_written",
     "where-known-small": "where_known_small",
     "whereKnown": "where_known",
+    "write-beyond": "write_beyond",
+    "write-means": "write_means",
+    "written-there": "written_there",
     "writtenText": "written_text",
     "xorLeft": "xor_left",
     "xorRight": "xor_right",
@@ -262,7 +270,8 @@ def main():
     for folder, below, files in os.walk(top):
         below[:] = sorted(d for d in below if d not in (".git", "out", "target", "tools"))
         for name in sorted(files):
-            if not name.endswith((".antt", ".rt", ".md")):
+            # that page names the old spelling too
+            if name == "PORT.md" or not name.endswith((".antt", ".rt", ".md")):
                 continue
             path = os.path.join(folder, name)
             with open(path, encoding="utf-8") as file:

@@ -22,10 +22,10 @@ by_push cs c P last others i h = ⊎_elim
     (cases_eq i (length cs))
 
 -- the chunk that is taken for a line is its chunk
-pub took-ready :
+pub took_ready :
     (rows k : ℕ) (s : Store) (cs : List ℕ) (t : Store) (ds : List ℕ) (c : ℕ) → 0 < rows → k % rows ≡ 0 → length cs ≡ chunks_for rows k →
     Free s.out c → t ≡ taken s c → ds ≡ cs ++ c ∷ [] → Opened rows k s cs t ds × Ready rows k t ds
-took-ready rows k s cs t ds c pos first many free store list =
+took_ready rows k s cs t ds c pos first many free store list =
     let b = eq-eqb (k % rows) 0 first in
     let e : length cs ≡ k / rows = omega arith in (
       rw b (record { chunk = c; free = free; store = store; list = list }),

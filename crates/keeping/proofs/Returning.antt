@@ -69,8 +69,8 @@ back_written t cs k r l e =
     ∙ ap (all_given t) (sym f)
 
 -- a row of a chunk that is out is written
-pub written-there :
+pub written_there :
     {A : Type 0} (rows : ℕ) (s t u : Store) (c r : ℕ) (a : Result A StoreFault) → is_out s.out c ≡ true → r < rows →
     refusal a ≡ row_refusal rows s.out c r → t ≡ cond (is_ok a) u s → t ≡ u
-written-there rows s t u c r (Ok x) out within said after = after
-written-there rows s t u c r (Err e) out within said after = let b = lt-ltb r rows within in absurd (some_told e (said ∙ rw (out, b)))
+written_there rows s t u c r (Ok x) out within said after = after
+written_there rows s t u c r (Err e) out within said after = let b = lt-ltb r rows within in absurd (some_told e (said ∙ rw (out, b)))

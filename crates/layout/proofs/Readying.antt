@@ -1,9 +1,10 @@
 -- Lines made ready, one after another, for the clusters that a list names.
-use Rattle.std.proofs.Common.{◌≡◌, ℕ, true, ◌⊎◌, List, [], ◌∷◌, ◌++◌, Some, None, Ok, box_value, Option, Box, sym, ap, ◌∙◌, subst, inl, inr, ⊎_elim}
+use Rattle.std.proofs.Common.{◌≡◌, ℕ, true, refl, ◌⊎◌, List, [], ◌∷◌, ◌++◌, Some, None, Ok, box_value, Option, Box, sym, ap, ◌∙◌, subst, inl, inr, ⊎_elim}
 use mathlib.Core.Path.{fun_ext}
 use Rattle.std.proofs.ByRecursion.{All-push}
-use Rattle.std.specs.BTreeMap.{IsOrdered, IsEmpty, get, is_at}
-use Rattle.std.specs.Map.{lookup}
+use Rattle.std.specs.BTreeMap.{IsOrdered, get, is_at, keys, values}
+use Rattle.std.specs.List.Sorted.{IsStrictlySortedBy}
+use Rattle.std.specs.Map.{lookup, keys_of}
 use Rattle.std.specs.BTreeMap.{BTreeMap}
 use Rattle.std.specs.List.{AllByRecursion}
 use Rattle.lines.specs.declared.entries.Mapping.{Mapping}
@@ -37,12 +38,19 @@ module _ (all left : List (List ℕ)) (row : List ℕ) (rest : List (List ℕ)) 
       let here : Awaited all c = h.later c (subst (λ rows. Awaited rows c) (sym first) (inl good)) in
       record { each = subst (AllByRecursion (Awaited all)) (sym pushed) (All-push (Awaited all) found c h.each here); later = found_none.later }
 
+-- a map without keys has no entries
+no_keys : {K X : Type 0} (es : List (K × X)) → keys_of es ≡ [] → es ≡ []
+no_keys [] k = refl
+no_keys (e ∷ es) k = cc
+
 module _ {Y : Type 0} (rows : List (List ℕ)) where
-  pub ready_none : (m : BTreeMap ℕ (Box Line Y)) → IsEmpty m → IsOrdered nat_cmp m → Ready rows m
-  ready_none m none ordered =
+  pub ready_none : (m : BTreeMap ℕ (Box Line Y)) → keys m ≡ [] → values m ≡ [] → Ready rows m
+  unfolding IsStrictlySortedBy
+  ready_none m k v =
+      let none = no_keys m.entries k in
       let empty : (c : ℕ) → get nat_cmp m c ≡ None = λ c. ap (lookup (is_at (nat_cmp c))) none in
       record {
-        loose = record { ordered = ordered; own = λ c. inl (subst (Own c) (sym (empty c)) tt) };
+        loose = record { ordered = subst (λ es. IsStrictlySortedBy nat_cmp (keys_of es)) (sym none) tt; own = λ c. inl (subst (Own c) (sym (empty c)) tt) };
         pending = λ c e. absurd (subst Blank (empty c) e);
         book = fun_ext (λ p. ap (λ o. word_of (entry_in o (position_of p))) (empty (cluster_of p)));
       }

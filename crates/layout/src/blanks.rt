@@ -25,12 +25,12 @@ fn clusters_of(heap: Global, list: &[u8]) -> Result<Vec<u64>, AllocError>
     Ok(clusters)
 }
 
-// In rising order each line goes to the end of the map, where its insertion moves no other.
+// In rising order each line goes to the end of the map.
 pub(crate) fn blank_lines(heap: Global, list: &[u8]) -> Result<BTreeMap<u64, Box<Line>>, AllocError>
     ensures { IfOk result (λ m. Ready (lines_of list.now) m) }
 {
     let mut clusters = clusters_of(heap, list)?;
-    clusters.sort()?;
+    clusters.sort_unstable();
     let mut lines = BTreeMap::new(heap);
     for cluster in clusters.as_slice() {
         lines.insert(*cluster, Box::new(heap, Line::empty())?)?;

@@ -17,7 +17,7 @@ use Rattle.stores.specs.Choices.{marks_taken}
 use Rattle.stores.specs.Stores.{taken, written}
 use Rattle.stores.specs.Views.{chunks_in, out_of, view}
 use Rattle.stores.proofs.Meaning.{drop_past, out_taken}
-use Rattle.stores.proofs.Viewing.{view-taken, view-written}
+use Rattle.stores.proofs.Viewing.{view_taken, view_written}
 use Rattle.lines.specs.Decoded.{packed_line}
 use Rattle.packed_store.specs.Packed.{rows_per_chunk, chunk_bytes, chunk_count, beyond_chunks, line_at, zeros, chunk_cleared, line_replaced, row_replaced}
 use Rattle.lines.proofs.Decoding.{packed_back, packed_empty}
@@ -84,7 +84,7 @@ pub shown_taken : (m : Marks) (mem : List ℕ) (c : ℕ) → c * 8192 + 8192 ≤
 shown_taken m mem c h =
     ap (λ k. view rows_per_chunk (out_of (chunks_in chunk_bytes k) (marks_taken m c)) (line_at (chunk_cleared mem c))) (length-cleared mem c h)
     ∙ ap (λ out. view rows_per_chunk out (line_at (chunk_cleared mem c))) (out_taken (chunk_count mem) m c)
-    ∙ view-taken rows_per_chunk (out_of (chunk_count mem) m) (line_at mem) (line_at (chunk_cleared mem c)) c
+    ∙ view_taken rows_per_chunk (out_of (chunk_count mem) m) (line_at mem) (line_at (chunk_cleared mem c)) c
     (λ r p. ap packed_line (cleared_here mem c r h p) ∙ packed_back empty_line)
     (λ d r ne p. ap packed_line (cleared_other mem c d r h ne p))
 
@@ -100,7 +100,7 @@ pub shown_written : (m : Marks) (mem : List ℕ) (c r : ℕ) (l : Line) → is_o
 shown_written m mem c r l out p h =
     let i : ℕ = c * 128 + r in
     ap (λ k. view rows_per_chunk (out_of (chunks_in chunk_bytes k) m) (line_at (line_replaced mem i l))) (length-replaced mem i l h)
-    ∙ view-written rows_per_chunk (out_of (chunk_count mem) m) (line_at mem) (line_at (line_replaced mem i l)) c r l out p
+    ∙ view_written rows_per_chunk (out_of (chunk_count mem) m) (line_at mem) (line_at (line_replaced mem i l)) c r l out p
     (ap packed_line (paste_here mem (packed l) (i * 64) 64 h (sym (length-packed l))) ∙ packed_back l)
     (λ j ne. ap packed_line (replaced_other mem i j l h ne))
 

@@ -11,7 +11,7 @@ use Rattle.stores.specs.Choices.{marks_taken}
 use Rattle.stores.specs.Stores.{taken, written}
 use Rattle.stores.specs.Views.{chunks_in, out_of, view}
 use Rattle.stores.proofs.Meaning.{drop_past, out_taken}
-use Rattle.stores.proofs.Viewing.{view-taken, view-written}
+use Rattle.stores.proofs.Viewing.{view_taken, view_written}
 use Rattle.lines.specs.Decoded.{record_of, recorded_line}
 use Rattle.record_store.specs.Records.{rows_per_chunk, chunk_count, beyond_chunks, line_at, chunk_cleared, row_replaced}
 use Rattle.lines.proofs.Decoding.{recorded_back}
@@ -29,14 +29,14 @@ pub shown_taken : (m : Marks) (mem : List (List ℕ)) (c : ℕ) → c * 4 + 4 �
 shown_taken m mem c h =
     ap (λ k. view rows_per_chunk (out_of (chunks_in rows_per_chunk k) (marks_taken m c)) (line_at (chunk_cleared mem c))) (length-cleared mem c h)
     ∙ ap (λ out. view rows_per_chunk out (line_at (chunk_cleared mem c))) (out_taken (chunk_count mem) m c)
-    ∙ view-taken rows_per_chunk (out_of (chunk_count mem) m) (line_at mem) (line_at (chunk_cleared mem c)) c
+    ∙ view_taken rows_per_chunk (out_of (chunk_count mem) m) (line_at mem) (line_at (chunk_cleared mem c)) c
     (λ r p. ap recorded_line (cleared_here mem c r h p) ∙ recorded_back empty_line)
     (λ d r ne p. ap recorded_line (cleared_other mem c d r h ne p))
 
 pub shown_written : (m : Marks) (mem : List (List ℕ)) (c r : ℕ) (l : Line) → is_out (out_of (chunk_count mem) m) c ≡ true → r < 4 → c * 4 + r < length mem → view rows_per_chunk (out_of (chunk_count (row_replaced mem c r l)) m) (line_at (row_replaced mem c r l)) ≡ written (view rows_per_chunk (out_of (chunk_count mem) m) (line_at mem)) c r l
 shown_written m mem c r l out p h =
     ap (λ k. view rows_per_chunk (out_of (chunks_in rows_per_chunk k) m) (line_at (row_replaced mem c r l))) (length-set mem (c * 4 + r) (record_of l))
-    ∙ view-written rows_per_chunk (out_of (chunk_count mem) m) (line_at mem) (line_at (row_replaced mem c r l)) c r l out p
+    ∙ view_written rows_per_chunk (out_of (chunk_count mem) m) (line_at mem) (line_at (row_replaced mem c r l)) c r l out p
     (ap recorded_line (get_or-set_same mem (c * 4 + r) (record_of l) [] h) ∙ recorded_back l)
     (λ i ne. ap recorded_line (get_or-set_other mem (c * 4 + r) i (record_of l) [] ne))
 

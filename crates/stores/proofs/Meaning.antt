@@ -41,31 +41,31 @@ module _ {X : Type 0} (rows : ℕ) (count : X → ℕ) (at : X → ℕ → Line)
   abbrev seen : Marks → X → Store
   seen m mem = view rows (out_of (count mem) m) (at mem)
 
-  pub take-means :
+  pub take_means :
       (cleared : X → ℕ → X) (m m' : Marks) (mem mem' : X) (r : Result ℕ StoreFault) →
       ((c : ℕ) → c < count mem → seen (marks_taken m c) (cleared mem c) ≡ taken (seen m mem) c) →
       MarksTook (out_of (count mem) m) m r m' →
       MatchResult r (λ c. mem' ≡ cleared mem c) (λ _. mem' ≡ mem) →
       MatchResult r (λ c. Free (out_of (count mem) m) c × (seen m' mem' ≡ taken (seen m mem) c)) (λ _. seen m' mem' ≡ seen m mem)
-  take-means cleared m m' mem mem' (Ok c) meant marks memory = (marks.0, ap₂ seen marks.2 memory ∙ meant c (free_below (count mem) m c marks.0))
-  take-means cleared m m' mem mem' (Err e) meant marks memory = ap₂ seen marks memory
+  take_means cleared m m' mem mem' (Ok c) meant marks memory = (marks.0, ap₂ seen marks.2 memory ∙ meant c (free_below (count mem) m c marks.0))
+  take_means cleared m m' mem mem' (Err e) meant marks memory = ap₂ seen marks memory
 
-  pub give-back-means :
+  pub give_back_means :
       (m m' : Marks) (mem mem' : X) (c : ℕ) (b : Bool) → m' ≡ cond b (marks_given m c) m → mem' ≡ mem →
       seen m' mem' ≡ cond b (given_back (seen m mem) c) (seen m mem)
-  give-back-means m m' mem mem' c true marks memory =
+  give_back_means m m' mem mem' c true marks memory =
       ap₂ seen marks memory ∙ ap (λ o. view rows o (at mem)) (take_set_at (count mem) m.out c false) ∙ view_given rows (out_of (count mem) m) (at mem) c
-  give-back-means m m' mem mem' c false marks memory = ap₂ seen marks memory
+  give_back_means m m' mem mem' c false marks memory = ap₂ seen marks memory
 
-  pub write-means :
+  pub write_means :
       {A : Type 0} (replaced : X) (m m' : Marks) (mem mem' : X) (c row : ℕ) (l : Line) (r : Result A StoreFault) →
       (c < count mem → is_out (out_of (count mem) m) c ≡ true → row < rows → seen m replaced ≡ written (seen m mem) c row l) →
       refusal r ≡ row_refusal rows (out_of (count mem) m) c row → m' ≡ m → mem' ≡ cond (is_ok r) replaced mem →
       seen m' mem' ≡ cond (is_ok r) (written (seen m mem) c row l) (seen m mem)
-  write-means replaced m m' mem mem' c row l (Ok x) meant said marks memory =
+  write_means replaced m m' mem mem' c row l (Ok x) meant said marks memory =
       let met = row_accepted rows (out_of (count mem) m) c row (sym said) in
       ap₂ seen marks memory ∙ meant (out_below (count mem) m c met.0) met.0 met.1
-  write-means replaced m m' mem mem' c row l (Err e) meant said marks memory = ap₂ seen marks memory
+  write_means replaced m m' mem mem' c row l (Err e) meant said marks memory = ap₂ seen marks memory
 
   -- memory that no chunk has stays as it is
   pub take_beyond :
@@ -77,15 +77,15 @@ module _ {X : Type 0} (rows : ℕ) (count : X → ℕ) (at : X → ℕ → Line)
   take_beyond beyond cleared m m' mem mem' (Ok c) stays marks memory = ap beyond memory ∙ stays c (free_below (count mem) m c marks.0)
   take_beyond beyond cleared m m' mem mem' (Err e) stays marks memory = ap beyond memory
 
-  pub write-beyond :
+  pub write_beyond :
       {A Y : Type 0} (beyond : X → Y) (replaced : X) (m : Marks) (mem mem' : X) (c row : ℕ) (r : Result A StoreFault) →
       (c < count mem → row < rows → beyond replaced ≡ beyond mem) →
       refusal r ≡ row_refusal rows (out_of (count mem) m) c row → mem' ≡ cond (is_ok r) replaced mem →
       beyond mem' ≡ beyond mem
-  write-beyond beyond replaced m mem mem' c row (Ok x) stays said memory =
+  write_beyond beyond replaced m mem mem' c row (Ok x) stays said memory =
       let met = row_accepted rows (out_of (count mem) m) c row (sym said) in
       ap beyond memory ∙ stays (out_below (count mem) m c met.0) met.1
-  write-beyond beyond replaced m mem mem' c row (Err e) stays said memory = ap beyond memory
+  write_beyond beyond replaced m mem mem' c row (Err e) stays said memory = ap beyond memory
 
 -- what lies past a part that was written over
 pub drop_past : {A : Type 0} (xs ys : List A) (a n k : ℕ) → a + n ≤ length xs → n ≤ length ys → a + n ≤ k → drop k (paste xs a ys n) ≡ drop k xs

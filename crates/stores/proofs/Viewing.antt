@@ -45,24 +45,24 @@ view_given rows out at c =
     (cases_eq d c))
 
 -- a mark set, and the rows of the chunk emptied
-pub view-taken :
+pub view_taken :
     (rows : ℕ) (out : List Bool) (at at' : ℕ → Line) (c : ℕ) →
     ((r : ℕ) → r < rows → at' (c * rows + r) ≡ empty_line) →
     ((d r : ℕ) → d ≢ c → r < rows → at' (d * rows + r) ≡ at (d * rows + r)) →
     view rows (set out c true) at' ≡ taken (view rows out at) c
-view-taken rows out at at' c here other = same_store _ _ refl (λ d r. there d r (cases_eq d c) (cases_lt r rows)) where
+view_taken rows out at at' c here other = same_store _ _ refl (λ d r. there d r (cases_eq d c) (cases_lt r rows)) where
   there : (d r : ℕ) → (d ≡ c) ⊎ (d ≢ c) → (r < rows) ⊎ (rows ≤ r) → cond (get_or (set out c true) d false && ltb r rows) (at' (d * rows + r)) empty_line ≡ cond (eqb d c) empty_line (cond (get_or out d false && ltb r rows) (at (d * rows + r)) empty_line)
   there d r (inl e) (inl h) = rw (e, eq-eqb c c refl, here r h) (cond_same _ _)
   there d r (inr ne) (inl h) = rw (get_or-set_other out c d true false ne, ne_eqb d c ne, other d r ne h)
   there d r e (inr h) = let f = le-ltb r rows h in rw (and_right (get_or (set out c true) d false) (ltb r rows) f, and_right (get_or out d false) (ltb r rows) f) (sym (cond_same _ _))
 
 -- one row written
-pub view-written :
+pub view_written :
     (rows : ℕ) (out : List Bool) (at at' : ℕ → Line) (c r : ℕ) (l : Line) → is_out out c ≡ true → r < rows →
     at' (c * rows + r) ≡ l →
     ((i : ℕ) → i ≢ c * rows + r → at' i ≡ at i) →
     view rows out at' ≡ written (view rows out at) c r l
-view-written rows out at at' c r l was within here other = same_store _ _ refl (λ d q. there d q (cases_eq d c) (cases_eq q r) (cases_lt q rows)) where
+view_written rows out at at' c r l was within here other = same_store _ _ refl (λ d q. there d q (cases_eq d c) (cases_eq q r) (cases_lt q rows)) where
   there : (d q : ℕ) → (d ≡ c) ⊎ (d ≢ c) → (q ≡ r) ⊎ (q ≢ r) → (q < rows) ⊎ (rows ≤ q) → cond (get_or out d false && ltb q rows) (at' (d * rows + q)) empty_line ≡ cond (eqb d c && eqb q r) l (cond (get_or out d false && ltb q rows) (at (d * rows + q)) empty_line)
   there d q (inl e) (inl f) h = rw (e, f, was, lt-ltb r rows within, eq-eqb c c refl, eq-eqb r r refl, here)
   there d q (inr ne) f (inl h) = rw (ne_eqb d c ne, other (d * rows + q) (λ e. ne (place_same rows d q c r h within e).0))

@@ -1,6 +1,6 @@
 -- What the search leaves to show of `give_back`.
 use Rattle.std.proofs.Common.{is_ok}
-use Rattle.stores.proofs.Meaning.{give-back-means}
+use Rattle.stores.proofs.Meaning.{give_back_means}
 use Rattle.packed_store.specs.Packed.{rows_per_chunk, chunk_count, line_at}
 use Rattle.packed_store.proofs.store.PackedStoreChunkStore.give_back.Goals as goal
 
@@ -10,7 +10,7 @@ returns c =
     let did = c.free_chunk.ensures in
     record {
       said = did.said;
-      after = give-back-means rows_per_chunk chunk_count line_at s.marks _ s.mem.now _ c.args.chunk (is_ok c.free_chunk.result) did.marks did.memory;
+      after = give_back_means rows_per_chunk chunk_count line_at s.marks _ s.mem.now _ c.args.chunk (is_ok c.free_chunk.result) did.marks did.memory;
       marks = did.marks;
       memory = did.memory;
       refused = did.refused;
