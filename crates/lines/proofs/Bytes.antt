@@ -2,8 +2,8 @@
 use Rattle.std.proofs.Common.{◌≡◌, ℕ, ◌+◌, ◌*◌, ◌/◌, ◌%◌, ◌^◌, ◌<◌, List, length, get_or, Ok, Err, Result, sym, refl, ap, ◌∙◌, add-zero, arith, rules}
 use Rattle.std.proofs.lemmas.List.FromFn.{fill_by_all, length-map-range_with_len, get_or-map-range_with_len}
 use Rattle.std.proofs.lemmas.List.{ext_get_or}
-use Rattle.lines.specs.declared.entries.Entry.{Entry}
-use Rattle.lines.specs.declared.entries.Entry.TheVariants.{Absent}
+use Rattle.lines.specs.Entries.{Entry}
+use Rattle.std.specs.Prelude.{None}
 use Rattle.lines.specs.declared.faults.LineFault.{LineFault}
 use Rattle.lines.specs.declared.rows.Line.{Line}
 use Rattle.lines.specs.Entries.{word_of}
@@ -50,7 +50,7 @@ pub record Read (bs : List ℕ) (c : ℕ) (es : List Entry) : Type 0 where
   pub eight : length es ≡ 8
   pub small : c < 2 ^ (cluster_bits * 8)
   pub parts : (i : ℕ) → i < 8 → cluster_part c i ≡ word_at bs i / 2 ^ content_bits
-  pub words : (i : ℕ) → i < 8 → word_of (get_or es i Absent) ≡ word_at bs i % 2 ^ content_bits
+  pub words : (i : ℕ) → i < 8 → word_of (get_or es i None) ≡ word_at bs i % 2 ^ content_bits
 
 -- no other line packs to the bytes
 pub only_cluster : (l : Line) (bs : List ℕ) (c : ℕ) (es : List Entry) → Read bs c es → packed l ≡ bs → l.cluster ≡ c
@@ -60,7 +60,7 @@ only_cluster l bs c es r e =
 
 pub only_entries : (l : Line) (bs : List ℕ) (c : ℕ) (es : List Entry) → Read bs c es → packed l ≡ bs → l.entries ≡ es
 only_entries l bs c es r e =
-    ext_get_or Absent l.entries es (l.ok.1 ∙ sym r.eight)
+    ext_get_or None l.entries es (l.ok.1 ∙ sym r.eight)
     (λ i h. let p : i < 8 = omega arith in same_word _ _ (sym (packed_word_low l i) ∙ sym (ap (λ w. w % 2 ^ content_bits) (packed-word_at l bs e i p)) ∙ sym (r.words i p)))
 
 split_bytes : (bs : List ℕ) → ((i : ℕ) → get_or bs i 0 < 256) → (k j : ℕ) → j < 8 → byte_of (word_at bs k) j ≡ get_or bs (8 * k + j) 0

@@ -1,6 +1,6 @@
 -- Which line a record or packed bytes are decoded to.
 use Rattle.std.proofs.Common.{◌≡◌, ℕ, List, [], ◌∷◌, map, replicate, sym, refl, ◌∙◌}
-use Rattle.lines.specs.declared.entries.Entry.{Entry}
+use Rattle.lines.specs.Entries.{Entry}
 use Rattle.lines.specs.declared.rows.Line.{Line}
 use Rattle.lines.specs.Decoded.{Decoded, form_or_none, line_found, record_of, recorded_line, packed_line}
 use Rattle.lines.specs.Entries.{word_of}

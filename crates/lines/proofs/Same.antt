@@ -2,7 +2,7 @@
 use mathlib.Core.HLevel.{is_prop→PathP}
 use Rattle.std.proofs.Common.{◌≡◌, ℕ, List}
 use denote.Struct.Props.{props}
-use Rattle.lines.specs.declared.entries.Entry.{Entry}
+use Rattle.lines.specs.Entries.{Entry}
 use Rattle.lines.specs.declared.entries.Mapping.{Mapping, ok-type as mapping_ok}
 use Rattle.lines.specs.declared.numbers.Address.{Address, ok-type as address_ok}
 use Rattle.lines.specs.declared.numbers.Page.{Page, ok-type as page_ok}

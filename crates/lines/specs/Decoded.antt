@@ -1,5 +1,5 @@
 -- The line that numbers or bytes stand for, whatever they are.
-use Rattle.std.specs.Prelude.{◌≡◌, ℕ, List, ◌∷◌, map}
+use Rattle.std.specs.Prelude.{◌≡◌, ℕ, List, ◌∷◌, map, ◌≢◌}
 use mathlib.Core.List.{List-discrete}
 use Rattle.std.proofs.Math.Decide.{ℕ_discrete}
 use Rattle.lines.specs.declared.rows.Line.{Line}
@@ -24,6 +24,10 @@ line_found form ns (no none) = empty_line
 -- a line as its cluster and the words of its entries
 abbrev pub record_of : Line → List ℕ
 record_of l = l.cluster ∷ map word_of l.entries
+
+-- no line has this record
+abbrev pub NoRecord : List ℕ → Type 0
+NoRecord ns = (l : Line) → record_of l ≢ ns
 
 -- the line that a record stands for, the empty line where it is the record of none
 unfoldable pub recorded_line : List ℕ → Line

@@ -7,8 +7,8 @@ use Rattle.std.proofs.Common.{sym, subst, suc-ne-zero, arith}
 use Rattle.std.proofs.Math.Bridge.{le_prop}
 use Rattle.std.proofs.Math.Decide.{dec_le, dec_lt, ℕ_discrete}
 use Rattle.std.proofs.Math.Nat.{ℕ_set, suc_inj}
-use Rattle.lines.specs.declared.entries.Entry.{Entry}
-use Rattle.lines.specs.declared.entries.Entry.TheVariants.{Absent, Present}
+use Rattle.lines.specs.Entries.{Entry}
+use Rattle.std.specs.Prelude.{Some, None}
 use Rattle.lines.specs.declared.entries.Mapping.{Mapping, ok-type as MappingLaw}
 use Rattle.lines.specs.declared.rows.Line.{Line, ok-type as LineLaw}
 use Rattle.lines.specs.Entries.{any_present}
@@ -84,14 +84,14 @@ mapping_or_none =
 
 -- some entry or none
 entry_or_none : Exhaustible Entry
-entry_or_none P d = elim (d Absent) [
-  | yes p ↦ yes (Absent, p)
-  | no none ↦ Dec.of_iff (λ h. (Present h.0, h.1), λ h. present none h.0 h.1) (mapping_or_none (λ m. P (Present m)) (λ m. d (Present m)))
+entry_or_none P d = elim (d None) [
+  | yes p ↦ yes (None, p)
+  | no none ↦ Dec.of_iff (λ h. (Some h.0, h.1), λ h. present none h.0 h.1) (mapping_or_none (λ m. P (Some m)) (λ m. d (Some m)))
 ]
   where
-    present : ¬ P Absent → (e : Entry) → P e → (m : Mapping) × P (Present m)
-    present none Absent p = absurd (none p)
-    present none (Present m) p = (m, p)
+    present : ¬ P None → (e : Entry) → P e → (m : Mapping) × P (Some m)
+    present none None p = absurd (none p)
+    present none (Some m) p = (m, p)
 
 -- some line or none
 pub line_or_none : Exhaustible Line

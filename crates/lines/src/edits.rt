@@ -1,24 +1,42 @@
 // Making a line, looking into it, and the lines that come of setting or clearing an entry.
-ghost use Rattle.std.specs.Prelude.{◌≡◌, MatchOption};
-ghost use Rattle.lines.specs.Entries.{any_present};
+ghost use Rattle.std.specs.Prelude.{◌≡◌, ◌∷◌, map, slice_set, MatchOption};
+ghost use Rattle.lines.specs.Decoded.{record_of, NoRecord};
+ghost use Rattle.lines.specs.Entries.{any_present, word_of, NoEntries};
 ghost use Rattle.lines.specs.Numbers.{cluster_of, position_of};
 ghost use Rattle.lines.specs.Lines.{entry_at, is_empty, is_of, filled, cleared, no_entries, Holds, NoLine, cluster_left};
 
 use crate::entries::{Entry, Mapping};
+use crate::faults::LineFault;
 use crate::numbers::Page;
 use crate::rows::Line;
+use crate::words::{entry_from_word, entry_word};
 
 pub(crate) const CLUSTERS: u64 = 1 << 33;
 
 pub(crate) fn any_present(entries: &[Entry; 8]) -> bool
     ensures { result ≡ any_present entries.now }
 {
-    for entry in entries {
-        if let Entry::Present(_) = entry {
-            return true;
-        }
+    entries.iter().any(Option::is_some)
+}
+
+// the entries that have these words, where there are such
+fn entries_of(words: [u64; 8]) -> Option<[Entry; 8]>
+    ensures { MatchOption result (NoEntries words) (λ es. map word_of es ≡ words) }
+{
+    words
+        .try_map(|word| entry_from_word(word).ok_or(LineFault::NotALine))
+        .ok()
+}
+
+// the entries with that at a position replaced; there is none past the eighth
+fn with_entry(mut entries: [Entry; 8], position: usize, entry: Entry) -> [Entry; 8]
+    ensures { result ≡ slice_set entries position entry }
+{
+    // `get_mut` would tell a proof nothing of the elements.
+    if position < entries.len() {
+        entries[position] = entry;
     }
-    false
+    entries
 }
 
 impl Line {
@@ -27,7 +45,7 @@ impl Line {
     {
         Line {
             cluster: 0,
-            entries: [Entry::Absent; 8],
+            entries: [None; 8],
         }
     }
 
@@ -48,11 +66,9 @@ impl Line {
     pub fn only(page: Page, mapping: Mapping) -> Line
         ensures { Holds result (cluster_of page.number) (filled no_entries (position_of page.number) mapping) }
     {
-        let mut entries = [Entry::Absent; 8];
-        entries[page.position()] = Entry::Present(mapping);
         Line {
             cluster: page.cluster(),
-            entries,
+            entries: with_entry([None; 8], page.position(), Some(mapping)),
         }
     }
 
@@ -60,11 +76,7 @@ impl Line {
     pub fn entry(&self, position: usize) -> Entry
         ensures { result ≡ entry_at self.now position }
     {
-        if position < 8 {
-            self.entries[position]
-        } else {
-            Entry::Absent
-        }
+        *self.entries.get(position)?
     }
 
     pub fn is_empty(&self) -> bool
@@ -80,18 +92,27 @@ impl Line {
         !self.is_empty() && self.cluster == cluster
     }
 
+    // the words of its entries
+    pub fn words(&self) -> [u64; 8]
+        ensures { result ≡ map word_of self.now.entries }
+    {
+        self.entries.map(entry_word)
+    }
+
+    // the line whose record is this, where there is one
+    pub fn from_words(cluster: u64, words: [u64; 8]) -> Option<Line>
+        ensures { MatchOption result (NoRecord (cluster ∷ words)) (λ l. record_of l ≡ cluster ∷ words) }
+    {
+        Line::new(cluster, entries_of(words)?)
+    }
+
     // the line of the same cluster with the entry at a position set; there is none past the eighth
     pub fn with(&self, position: usize, mapping: Mapping) -> Line
         ensures { Holds result self.now.cluster (filled self.now.entries position mapping) }
     {
-        if position >= 8 {
-            return *self;
-        }
-        let mut entries = self.entries;
-        entries[position] = Entry::Present(mapping);
         Line {
             cluster: self.cluster,
-            entries,
+            entries: with_entry(self.entries, position, Some(mapping)),
         }
     }
 
@@ -99,10 +120,7 @@ impl Line {
     pub fn without(&self, position: usize) -> Line
         ensures { Holds result (cluster_left self.now.cluster (cleared self.now.entries position)) (cleared self.now.entries position) }
     {
-        let mut entries = self.entries;
-        if position < 8 {
-            entries[position] = Entry::Absent;
-        }
+        let entries = with_entry(self.entries, position, None);
         let cluster = if any_present(&entries) {
             self.cluster
         } else {

@@ -3,7 +3,6 @@
 
 pub mod edits;
 pub mod entries;
-pub mod equals;
 pub mod faults;
 pub mod laws;
 pub mod numbers;
@@ -16,3 +15,4 @@ pub use entries::{Entry, Mapping};
 pub use faults::LineFault;
 pub use numbers::{Address, Page};
 pub use rows::Line;
+pub use words::{entry_from_word, entry_word};

@@ -4,6 +4,7 @@ ghost use Rattle.lines.specs.declared.rows.Line.{Line as ALine};
 ghost use Rattle.lines.specs.Packs.{byte_of, cluster_part, packed_word, packed};
 
 use crate::rows::Line;
+use crate::words::entry_word;
 
 // how many bits of the cluster each packed word holds, at its top
 pub const CLUSTER_BITS: usize = 5;
@@ -29,7 +30,7 @@ impl Line {
         requires { k < 8 }
         ensures { result ≡ packed_word self.now k }
     {
-        (cluster_part(self.cluster, k) << CONTENT_BITS) + self.entries[k].word()
+        (cluster_part(self.cluster, k) << CONTENT_BITS) + entry_word(self.entries[k])
     }
 
     // Different lines pack differently.

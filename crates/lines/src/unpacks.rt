@@ -10,6 +10,7 @@ use crate::entries::Entry;
 use crate::faults::LineFault;
 use crate::packs::{CLUSTER_BITS, CONTENT_BITS};
 use crate::rows::Line;
+use crate::words::entry_from_word;
 
 fn word_at(bytes: &[u8], k: usize) -> u64
     requires { (length bytes.now ≡ 64) × (k < 8) }
@@ -24,7 +25,7 @@ fn word_at(bytes: &[u8], k: usize) -> u64
 fn entry_in(word: u64) -> Option<Entry>
     ensures { MatchOption result (NoEntry (word % 2 ^ content_bits)) (λ e. word_of e ≡ word % 2 ^ content_bits) }
 {
-    Entry::from_word(word % (1 << CONTENT_BITS))
+    entry_from_word(word % (1 << CONTENT_BITS))
 }
 
 impl Line {
@@ -37,7 +38,7 @@ impl Line {
             return Err(LineFault::NotALine);
         }
         let mut cluster = 0;
-        let mut entries = [Entry::Absent; 8];
+        let mut entries = [None; 8];
         for k in 0..8 {
             let word = word_at(bytes, k);
             let Some(entry) = entry_in(word) else {

@@ -18,16 +18,20 @@ const PAGE_BYTES: u64 = 4096;
 
 const PAGES_IN_A_LINE: u64 = 8;
 
-impl Address {
-    pub fn new(number: u64) -> Result<Address, LineFault>
-        ensures { AddressMade number result }
-    {
+impl TryFrom<u64> for Address {
+    type Error = LineFault;
+
+    ghost try_from_gives = { AddressMade };
+
+    fn try_from(number: u64) -> Result<Address, LineFault> {
         if number >= ADDRESSES {
             return Err(LineFault::PageTooLarge);
         }
         Ok(Address { number })
     }
+}
 
+impl Address {
     pub fn page(self) -> Page
         ensures { result.number ≡ page_of self.number }
     {
@@ -43,16 +47,20 @@ impl Address {
     }
 }
 
-impl Page {
-    pub fn new(number: u64) -> Result<Page, LineFault>
-        ensures { PageMade number result }
-    {
+impl TryFrom<u64> for Page {
+    type Error = LineFault;
+
+    ghost try_from_gives = { PageMade };
+
+    fn try_from(number: u64) -> Result<Page, LineFault> {
         if number >= PAGES {
             return Err(LineFault::PageTooLarge);
         }
         Ok(Page { number })
     }
+}
 
+impl Page {
     pub fn cluster(self) -> u64
         ensures { result ≡ cluster_of self.number }
     {
@@ -67,6 +75,7 @@ impl Page {
 }
 
 impl Mapping {
+    // It takes two numbers, so it is a maker and no conversion.
     pub fn new(frame: u64, rights: u64) -> Result<Mapping, LineFault>
         ensures { MappingMade frame rights result }
     {
@@ -90,26 +99,19 @@ impl Mapping {
     }
 }
 
-impl Entry {
-    pub fn word(self) -> u64
-        ensures { result ≡ word_of self }
-    {
-        match self {
-            Entry::Absent => 0,
-            Entry::Present(mapping) => mapping.frame * 8 + mapping.rights as u64,
-        }
-    }
+// the word of an entry: 0, or frame and rights side by side
+pub fn entry_word(entry: Entry) -> u64
+    ensures { result ≡ word_of entry }
+{
+    entry.map_or(0, |mapping| mapping.frame * 8 + mapping.rights as u64)
+}
 
-    // the entry that has a word
-    pub fn from_word(word: u64) -> Option<Entry>
-        ensures { MatchOption result (NoEntry word) (λ e. word_of e ≡ word) }
-    {
-        if word == 0 {
-            return Some(Entry::Absent);
-        }
-        match Mapping::new(word / 8, word % 8) {
-            Ok(mapping) => Some(Entry::Present(mapping)),
-            Err(_) => None,
-        }
+// the entry that has a word
+pub fn entry_from_word(word: u64) -> Option<Entry>
+    ensures { MatchOption result (NoEntry word) (λ e. word_of e ≡ word) }
+{
+    if word == 0 {
+        return Some(None);
     }
+    Mapping::new(word / 8, word % 8).ok().map(Some)
 }

@@ -1,6 +1,6 @@
 -- The worked examples of the rules, in one sentence over the definitions that the contracts cite.
 use Rattle.std.specs.Prelude.{◌∷◌, ◌++◌, ◌≡◌, ℕ, replicate}
-use Rattle.lines.specs.declared.entries.Entry.TheVariants.{Present}
+use Rattle.std.specs.Prelude.{Some, None}
 use Rattle.lines.specs.declared.entries.Mapping.{Mapping}
 use Rattle.lines.specs.declared.rows.Line.{Line}
 use Rattle.lines.specs.Entries.{word_of}
@@ -22,7 +22,7 @@ pub record WorkedExamples : Type 0 where
   -- address 7 in a page with frame 5
   pub place : place_of 5 7 ≡ 20487
   -- frame 5 with rights 3
-  pub word : (m : Mapping) → m.frame ≡ 5 → m.rights ≡ 3 → word_of (Present m) ≡ 43
+  pub word : (m : Mapping) → m.frame ≡ 5 → m.rights ≡ 3 → word_of (Some m) ≡ 43
   -- page 9 alone, with frame 2 and rights 1: byte 7 is 0x08, byte 8 is 0x11, all others are 0
   pub packs : (l : Line) (m : Mapping) → m.frame ≡ 2 → m.rights ≡ 1 → Alone l 9 m → packed l ≡ replicate 7 0 ++ 0x08 ∷ 0x11 ∷ replicate 55 0
   -- a frame without rights is no entry, so no line has these bytes

@@ -1,8 +1,8 @@
 -- What the search leaves to show of `unpack`.
 use Rattle.std.proofs.Common.{◌≡◌, ℕ, ◌*◌, ◌/◌, ◌%◌, ◌^◌, ◌<◌, ◌≤◌, true, false, ◌≢◌, List, length, get_or, Ok, Err, sym, refl, ap, ◌∙◌, subst, arith, length-set, get_or-set_other, get_or-set_same, rules, below_more}
 use Rattle.std.proofs.lemmas.Nat.{shl_whole}
-use Rattle.lines.specs.declared.entries.Entry.{Entry}
-use Rattle.lines.specs.declared.entries.Entry.TheVariants.{Absent}
+use Rattle.lines.specs.Entries.{Entry}
+use Rattle.std.specs.Prelude.{None}
 use Rattle.lines.specs.declared.faults.LineFault.TheVariants.{NotALine}
 use Rattle.lines.specs.declared.rows.Line.{Line}
 use Rattle.lines.specs.Entries.{word_of, any_present}
@@ -17,7 +17,7 @@ refused : (bs : List ℕ) → ((l : Line) → packed l ≡ bs → ⊥) → Unpac
 refused bs none = ((refl, none), unpacks_back (Err NotALine) bs (refl, none))
 
 -- the loop at its end has read the bytes
-read : (bs : List ℕ) (c k : ℕ) (es : List Entry) → 8 ≤ k → k ≤ 8 → (length es ≡ 8) × (c < 2 ^ (cluster_bits * k)) × ((i : ℕ) → i < k → cluster_part c i ≡ word_at bs i / 2 ^ content_bits) × ((i : ℕ) → i < k → word_of (get_or es i Absent) ≡ word_at bs i % 2 ^ content_bits) → Read bs c es
+read : (bs : List ℕ) (c k : ℕ) (es : List Entry) → 8 ≤ k → k ≤ 8 → (length es ≡ 8) × (c < 2 ^ (cluster_bits * k)) × ((i : ℕ) → i < k → cluster_part c i ≡ word_at bs i / 2 ^ content_bits) × ((i : ℕ) → i < k → word_of (get_or es i None) ≡ word_at bs i % 2 ^ content_bits) → Read bs c es
 read bs c k es p q inv =
     let k8 : k ≡ 8 = omega arith in
     record { eight = inv.0; small = subst (λ n. c < 2 ^ (cluster_bits * n)) k8 inv.1; parts = λ i h. inv.2 i (omega arith); words = λ i h. inv.3 i (omega arith) }
@@ -31,7 +31,7 @@ pub returns-in_default : goal.returns-in_default
 returns-in_default c =
     let k : ℕ = c.loop-k.k in
     let r = refused c.args.bytes.now (λ l e.
-    c.in_default.ensures (get_or l.entries k Absent)
+    c.in_default.ensures (get_or l.entries k None)
     (sym (packed_word_low l k) ∙ ap (λ w. w % 2 ^ content_bits) (sym (packed-word_at l c.args.bytes.now e k c.loop-k-test.true) ∙ sym c.word_at-word.ensures.value))) in
     record { said = r.0; back = r.1 }
 
@@ -48,8 +48,8 @@ loop-k-preserved c =
       simp shl (below_more _ _ (λ i h. part_below cluster_bits n t k i h ∙ c.loop-k.invariant.2 i h)
           (part_here cluster_bits n t k c.loop-k.invariant.1 small ∙ ap (λ w. w / 2 ^ content_bits) c.word_at-word.ensures.value)),
       below_more _ _
-          (λ i h. let ne : i ≢ k = omega arith in ap word_of (get_or-set_other c.loop-k.entries k i c.in-Some.entry Absent ne) ∙ c.loop-k.invariant.3 i h)
-          (ap word_of (get_or-set_same c.loop-k.entries k c.in-Some.entry Absent here) ∙ c.in-Some.ensures ∙ ap (λ w. w % 2 ^ content_bits) c.word_at-word.ensures.value),
+          (λ i h. let ne : i ≢ k = omega arith in ap word_of (get_or-set_other c.loop-k.entries k i c.in-Some.entry None ne) ∙ c.loop-k.invariant.3 i h)
+          (ap word_of (get_or-set_same c.loop-k.entries k c.in-Some.entry None here) ∙ c.in-Some.ensures ∙ ap (λ w. w % 2 ^ content_bits) c.word_at-word.ensures.value),
     )
 
 pub returns-then-cluster-ge-CLUSTERS : goal.returns-then-cluster-ge-CLUSTERS
