@@ -1,18 +1,20 @@
 -- Bytes and the one line that packs to them.
-use Rattle.std.proofs.Common.{◌≡◌, ℕ, ◌+◌, ◌*◌, ◌/◌, ◌%◌, ◌^◌, ◌<◌, List, length, get_or, Ok, Err, Result, sym, refl, ap, ◌∙◌, add-zero, arith, rules}
+use Rattle.std.proofs.Common.{◌≡◌, ℕ, ◌+◌, ◌*◌, ◌/◌, ◌%◌, ◌^◌, ◌<◌, List, ◌∷◌, map, length, get_or, Ok, Err, Result, sym, refl, ap, ◌∙◌, subst, add-zero, arith, rules}
 use Rattle.std.proofs.lemmas.List.FromFn.{fill_by_all, length-map-range_with_len, get_or-map-range_with_len}
-use Rattle.std.proofs.lemmas.List.{ext_get_or}
-use Rattle.lines.specs.Entries.{Entry}
-use Rattle.std.specs.Prelude.{None}
+use Rattle.std.proofs.lemmas.List.{ext_get_or, get_or-map, length-map}
+use Rattle.std.specs.Option.{ok_or}
+use Rattle.std.specs.Prelude.{Option, Some, None, MatchOption}
 use Rattle.lines.specs.declared.faults.LineFault.{LineFault}
+use Rattle.lines.specs.declared.faults.LineFault.TheVariants.{NotALine}
 use Rattle.lines.specs.declared.rows.Line.{Line}
+use Rattle.lines.specs.Decoded.{record_of, NoRecord}
 use Rattle.lines.specs.Entries.{word_of}
 use Rattle.lines.specs.Lines.{entry_at}
 use Rattle.lines.specs.Packs.{cluster_bits, content_bits, cluster_part, packed_word, byte_of, packed_byte, packed, word_at}
 use Rattle.lines.specs.Refusals.{Unpacked}
 use Rattle.lines.proofs.Parts.{same_parts}
-use Rattle.lines.proofs.Present.{word_lt, same_word}
-use Rattle.lines.proofs.Same.{same_line}
+use Rattle.lines.proofs.Present.{word_lt}
+use Rattle.lines.proofs.Recorded.{records_apart}
 
 pub length-packed : (l : Line) → length (packed l) ≡ 64
 unfolding packed
@@ -45,23 +47,28 @@ packed-word_at l bs e k p =
     let first : get_or bs (8 * k) 0 ≡ byte_of (packed_word l k) 0 = simp add-zero at (at 0 (omega arith)) in
     omega (arith, joined_bytes (packed_word l k) (packed_word_lt l k), first, at 1 (omega arith), at 2 (omega arith), at 3 (omega arith), at 4 (omega arith), at 5 (omega arith), at 6 (omega arith), at 7 (omega arith))
 
--- what unpack has read of the bytes after its loop
-pub record Read (bs : List ℕ) (c : ℕ) (es : List Entry) : Type 0 where
-  pub eight : length es ≡ 8
+-- what unpack has read of the bytes: a cluster, and the words of the entries
+pub record Read (bs : List ℕ) (c : ℕ) (ws : List ℕ) : Type 0 where
+  pub eight : length ws ≡ 8
   pub small : c < 2 ^ (cluster_bits * 8)
   pub parts : (i : ℕ) → i < 8 → cluster_part c i ≡ word_at bs i / 2 ^ content_bits
-  pub words : (i : ℕ) → i < 8 → word_of (get_or es i None) ≡ word_at bs i % 2 ^ content_bits
+  pub words : (i : ℕ) → i < 8 → get_or ws i 0 ≡ word_at bs i % 2 ^ content_bits
 
--- no other line packs to the bytes
-pub only_cluster : (l : Line) (bs : List ℕ) (c : ℕ) (es : List Entry) → Read bs c es → packed l ≡ bs → l.cluster ≡ c
-only_cluster l bs c es r e =
-    same_parts cluster_bits 8 l.cluster c (omega arith) r.small
-    (λ i h. sym (packed_word_high l i) ∙ sym (ap (λ w. w / 2 ^ content_bits) (packed-word_at l bs e i h)) ∙ sym (r.parts i h))
+-- the word at a place, of a line's entries
+word_of_entry : (l : Line) (i : ℕ) → i < 8 → get_or (map word_of l.entries) i 0 ≡ word_of (entry_at l i)
+word_of_entry l i h = get_or-map word_of l.entries i None 0 (omega (arith, l.ok.1))
 
-pub only_entries : (l : Line) (bs : List ℕ) (c : ℕ) (es : List Entry) → Read bs c es → packed l ≡ bs → l.entries ≡ es
-only_entries l bs c es r e =
-    ext_get_or None l.entries es (l.ok.1 ∙ sym r.eight)
-    (λ i h. let p : i < 8 = omega arith in same_word _ _ (sym (packed_word_low l i) ∙ sym (ap (λ w. w % 2 ^ content_bits) (packed-word_at l bs e i p)) ∙ sym (r.words i p)))
+-- a line that packs to the bytes has the record that was read
+pub only_record : (l : Line) (bs : List ℕ) (c : ℕ) (ws : List ℕ) → Read bs c ws → packed l ≡ bs → record_of l ≡ c ∷ ws
+only_record l bs c ws r e =
+    let cluster : l.cluster ≡ c =
+    same_parts cluster_bits 8 l.cluster c (omega (arith, l.ok.0)) r.small
+    (λ i h. sym (packed_word_high l i) ∙ sym (ap (λ w. w / 2 ^ content_bits) (packed-word_at l bs e i h)) ∙ sym (r.parts i h)) in
+    let words : map word_of l.entries ≡ ws =
+    ext_get_or 0 (map word_of l.entries) ws (omega (arith, length-map l.entries word_of, l.ok.1, r.eight))
+    (λ i h. let p : i < 8 = omega (arith, length-map l.entries word_of, l.ok.1) in
+    word_of_entry l i p ∙ sym (packed_word_low l i) ∙ sym (ap (λ w. w % 2 ^ content_bits) (packed-word_at l bs e i p)) ∙ sym (r.words i p)) in
+    cc
 
 split_bytes : (bs : List ℕ) → ((i : ℕ) → get_or bs i 0 < 256) → (k j : ℕ) → j < 8 → byte_of (word_at bs k) j ≡ get_or bs (8 * k + j) 0
 split_bytes bs fit k j h =
@@ -75,30 +82,47 @@ split_bytes bs fit k j h =
     let f7 = fit (8 * k + 7) in
     search rules
 
--- the line that was read packs to the bytes
-pub packs_back : (l : Line) (bs : List ℕ) → length bs ≡ 64 → ((i : ℕ) → get_or bs i 0 < 256) → Read bs l.cluster l.entries → packed l ≡ bs
+-- the line whose record was read packs to the bytes
+pub packs_back : (l : Line) (bs : List ℕ) → length bs ≡ 64 → ((i : ℕ) → get_or bs i 0 < 256) → Read bs l.cluster (map word_of l.entries) → packed l ≡ bs
 unfolding packed
 packs_back l bs long fit r =
-    let w : (k : ℕ) → k < 8 → packed_word l k ≡ word_at bs k = λ k h. omega (arith, r.parts k h, r.words k h) in
+    let w : (k : ℕ) → k < 8 → packed_word l k ≡ word_at bs k = λ k h. omega (arith, r.parts k h, word_of_entry l k h, r.words k h) in
     sym (fill_by_all (packed_byte l) bs 64 0 long (λ b h.
     let p : b / 8 < 8 = omega arith in
     let q : b % 8 < 8 = omega arith in
     let e : 8 * (b / 8) + b % 8 ≡ b = omega arith in
     sym (ap (λ n. byte_of n (b % 8)) (w (b / 8) p) ∙ split_bytes bs fit (b / 8) (b % 8) q ∙ ap (λ n. get_or bs n 0) e)))
 
-read_packed : (l : Line) → Read (packed l) l.cluster l.entries
+read_packed : (l : Line) → Read (packed l) l.cluster (map word_of l.entries)
 read_packed l = record {
-  eight = l.ok.1;
+  eight = length-map l.entries word_of ∙ l.ok.1;
   small = omega (arith, l.ok.0);
   parts = λ i h. sym (packed_word_high l i) ∙ ap (λ w. w / 2 ^ content_bits) (sym (packed-word_at l (packed l) refl i h));
-  words = λ i h. sym (packed_word_low l i) ∙ ap (λ w. w % 2 ^ content_bits) (sym (packed-word_at l (packed l) refl i h));
+  words = λ i h. word_of_entry l i h ∙ sym (packed_word_low l i) ∙ ap (λ w. w % 2 ^ content_bits) (sym (packed-word_at l (packed l) refl i h));
 }
 
 -- different lines pack differently
 pub packs_apart : (k l : Line) → packed k ≡ packed l → k ≡ l
-packs_apart k l e = same_line k l (only_cluster k _ _ _ (read_packed l) e) (only_entries k _ _ _ (read_packed l) e)
+packs_apart k l e = records_apart k l (only_record k _ _ _ (read_packed l) e)
 
 -- a packed line unpacks to itself
-pub unpacks_back : (r : Result Line LineFault) (bs : List ℕ) → Unpacked bs r → (l : Line) → packed l ≡ bs → r ≡ Ok l
+unpacks_back : (r : Result Line LineFault) (bs : List ℕ) → Unpacked bs r → (l : Line) → packed l ≡ bs → r ≡ Ok l
 unpacks_back (Ok m) bs h l e = ap Ok (packs_apart m l (h ∙ sym e))
 unpacks_back (Err x) bs h l e = absurd (h.1 l e)
+
+-- what unpack promises of its answer
+pub record Right (bs : List ℕ) (r : Result Line LineFault) : Type 0 where
+  pub said : Unpacked bs r
+  pub back : (l : Line) → packed l ≡ bs → r ≡ Ok l
+
+right : (bs : List ℕ) (r : Result Line LineFault) → Unpacked bs r → Right bs r
+right bs r said = record { said = said; back = unpacks_back r bs said }
+
+-- the refusal is right where no line packs to the bytes
+pub refused : (bs : List ℕ) → ((l : Line) → packed l ≡ bs → ⊥) → Right bs (Err NotALine)
+refused bs none = right bs (Err NotALine) (refl, none)
+
+-- what comes of looking for the line of the record that was read is right
+pub unpacked : (bs : List ℕ) (c : ℕ) (ws : List ℕ) → length bs ≡ 64 → ((i : ℕ) → get_or bs i 0 < 256) → Read bs c ws → (o : Option Line) → MatchOption o (NoRecord (c ∷ ws)) (λ l. record_of l ≡ c ∷ ws) → Right bs (ok_or o NotALine)
+unpacked bs c ws long fit r None none = refused bs (λ l e. none l (only_record l bs c ws r e))
+unpacked bs c ws long fit r (Some l) is = right bs (Ok l) (packs_back l bs long fit (subst (Read bs l.cluster) (cc is) (subst (λ n. Read bs n ws) (cc is) r)))

@@ -1,13 +1,11 @@
 -- Which line a record or packed bytes are decoded to.
-use Rattle.std.proofs.Common.{◌≡◌, ℕ, List, [], ◌∷◌, map, replicate, sym, refl, ◌∙◌}
-use Rattle.lines.specs.Entries.{Entry}
+use Rattle.std.proofs.Common.{◌≡◌, ℕ, List, replicate, sym, refl, ◌∙◌}
 use Rattle.lines.specs.declared.rows.Line.{Line}
 use Rattle.lines.specs.Decoded.{Decoded, form_or_none, line_found, record_of, recorded_line, packed_line}
-use Rattle.lines.specs.Entries.{word_of}
 use Rattle.lines.specs.Lines.{empty_line, no_entries, Holds}
 use Rattle.lines.specs.Packs.{packed}
 use Rattle.lines.proofs.Bytes.{packs_apart}
-use Rattle.lines.proofs.Present.{same_word}
+use Rattle.lines.proofs.Recorded.{records_apart}
 use Rattle.lines.proofs.Same.{same_line}
 
 -- a form that tells lines apart is decoded to the line written in it
@@ -19,20 +17,6 @@ found_line form apart ns (no none) l e = absurd (none (l, e))
 found_none : (form : Line → List ℕ) (ns : List ℕ) (d : Decoded form ns) → ((l : Line) → form l ≡ ns → ⊥) → line_found form ns d ≡ empty_line
 found_none form ns (yes found) none = absurd (none found.0 found.1)
 found_none form ns (no _) none = refl
-
-same_words : (es fs : List Entry) → map word_of es ≡ map word_of fs → es ≡ fs
-same_words [] [] h = refl
-same_words [] (f ∷ fs) h = cc
-same_words (e ∷ es) [] h = cc
-same_words (e ∷ es) (f ∷ fs) h = let head = same_word e f (cc) in let tail = same_words es fs (cc) in cc
-
--- a line whose record has the cluster and the words of these entries holds them
-pub record_holds : (l : Line) (c : ℕ) (es : List Entry) → record_of l ≡ c ∷ map word_of es → Holds l c es
-record_holds l c es e = record { cluster = cc; entries = same_words l.entries es (cc) }
-
--- different lines have different records
-records_apart : (k l : Line) → record_of k ≡ record_of l → k ≡ l
-records_apart k l e = let held = record_holds k l.cluster l.entries e in same_line k l held.cluster held.entries
 
 -- a line that holds nothing is the empty line
 pub holds_nothing : (l : Line) → Holds l 0 no_entries → l ≡ empty_line

@@ -1,5 +1,6 @@
 -- The lemmas of `lines`.
 pub mod Same
+pub mod Arrays
 pub mod Equal
 pub mod Parts
 pub mod Present

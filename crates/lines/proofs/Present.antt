@@ -1,6 +1,5 @@
 -- Which entries are present, and the words that tell entries apart.
-use Rattle.std.proofs.Common.{◌≡◌, ℕ, zero, suc, ◌^◌, ◌<◌, true, false, eqb, List, [], ◌∷◌, length, replicate, Decides, refl, ap, ◌∙◌, arith}
-use Rattle.std.proofs.lemmas.Bool.Decides.{Decides-eqb}
+use Rattle.std.proofs.Common.{◌≡◌, ℕ, zero, suc, ◌^◌, ◌<◌, true, false, List, [], ◌∷◌, length, set, replicate, Decides, refl, ap, ◌∙◌, arith}
 use borrow.Author.Tests.{not-true}
 use Rattle.lines.specs.Entries.{Entry}
 use Rattle.std.specs.Prelude.{Some, None}
@@ -9,6 +8,12 @@ use Rattle.lines.specs.declared.rows.Line.{Line}
 use Rattle.lines.specs.Entries.{word_of, any_present}
 use Rattle.lines.specs.Lines.{empty_line, filled, is_empty}
 use Rattle.lines.proofs.Same.{same_mapping, same_line}
+
+pub any_set : (es : List Entry) (i : ℕ) (m : Mapping) → i < length es → any_present (set es i (Some m)) ≡ true
+any_set [] i m h = absurd (omega arith)
+any_set (e ∷ es) zero m h = refl
+any_set (None ∷ es) (suc i) m h = any_set es i m (omega arith)
+any_set (Some n ∷ es) (suc i) m h = refl
 
 -- an entry that is set leaves one present where one was
 pub any_filled : (es : List Entry) (k : ℕ) (m : Mapping) → any_present es ≡ true → any_present (filled es k m) ≡ true
@@ -43,7 +48,3 @@ same_word None None h = refl
 same_word None (Some n) h = absurd (omega arith)
 same_word (Some m) None h = absurd (omega arith)
 same_word (Some m) (Some n) h = ap Some (same_mapping m n (omega arith) (omega arith))
-
--- entries are told apart by their words
-pub entry_decides : (e f : Entry) → Decides (eqb (word_of e) (word_of f)) (e ≡ f)
-entry_decides e f = let d = Decides-eqb (word_of e) (word_of f) in (λ t. same_word e f (d.0 t), λ p. d.1 (ap word_of p))

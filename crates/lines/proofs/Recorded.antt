@@ -9,7 +9,22 @@ use Rattle.lines.specs.declared.rows.Line.{Line}
 use Rattle.lines.specs.Decoded.{record_of, NoRecord}
 use Rattle.lines.specs.Entries.{Entry, word_of, NoEntry, NoEntries}
 use Rattle.lines.specs.Lines.{Holds, NoLine}
-use Rattle.lines.proofs.Decoding.{record_holds}
+use Rattle.lines.proofs.Present.{same_word}
+use Rattle.lines.proofs.Same.{same_line}
+
+same_words : (es fs : List Entry) → map word_of es ≡ map word_of fs → es ≡ fs
+same_words [] [] h = refl
+same_words [] (f ∷ fs) h = cc
+same_words (e ∷ es) [] h = cc
+same_words (e ∷ es) (f ∷ fs) h = let head = same_word e f (cc) in let tail = same_words es fs (cc) in cc
+
+-- a line whose record has the cluster and the words of these entries holds them
+pub record_holds : (l : Line) (c : ℕ) (es : List Entry) → record_of l ≡ c ∷ map word_of es → Holds l c es
+record_holds l c es e = record { cluster = cc; entries = same_words l.entries es (cc) }
+
+-- different lines have different records
+pub records_apart : (k l : Line) → record_of k ≡ record_of l → k ≡ l
+records_apart k l e = let held = record_holds k l.cluster l.entries e in same_line k l held.cluster held.entries
 
 -- entries that have the words, one by one
 pub words_zip : (R : ℕ → Entry → Type 0) (ws : List ℕ) (es : List Entry) → AllZip R ws es → ((w : ℕ) (e : Entry) → R w e → word_of e ≡ w) → map word_of es ≡ ws

@@ -1,31 +1,31 @@
 // The line that bytes are the packed form of.
-ghost use Rattle.std.specs.Prelude.{◌≡◌, ◌%◌, ◌^◌, ◌<◌, length, Ok, MatchOption};
+ghost use Rattle.std.specs.Prelude.{◌≡◌, ℕ, ◌/◌, ◌^◌, ◌<◌, slice_index, Ok};
 ghost use Rattle.lines.specs.declared.rows.Line.{Line as ALine};
-ghost use Rattle.lines.specs.Entries.{word_of, NoEntry};
-ghost use Rattle.lines.specs.Packs.{content_bits, packed, word_at};
+ghost use Rattle.lines.specs.Packs.{cluster_part, content_bits, packed, word_at};
 ghost use Rattle.lines.specs.Refusals.{Unpacked};
 
-use crate::edits::{CLUSTERS, any_present};
-use crate::entries::Entry;
 use crate::faults::LineFault;
 use crate::packs::{CLUSTER_BITS, CONTENT_BITS};
 use crate::rows::Line;
-use crate::words::entry_from_word;
+use std::array;
 
-fn word_at(bytes: &[u8], k: usize) -> u64
-    requires { (length bytes.now ≡ 64) × (k < 8) }
-    ensures value { result ≡ word_at bytes.now k }
+fn word_at(bytes: &[u8; 64], k: usize) -> u64
+    requires { k < 8 }
+    ensures { result ≡ word_at bytes.now k }
 {
     let mut word = [0; 8];
     word.copy_from_slice(&bytes[8 * k..8 * k + 8]);
     u64::from_le_bytes(word)
 }
 
-// the entry that a word holds below its part of the cluster
-fn entry_in(word: u64) -> Option<Entry>
-    ensures { MatchOption result (NoEntry (word % 2 ^ content_bits)) (λ e. word_of e ≡ word % 2 ^ content_bits) }
+// the cluster whose parts stand at the tops of the words
+fn cluster_in(words: &[u64; 8]) -> u64
+    ensures small { result < 2 ^ 40 }
+    ensures parts { (k : ℕ) → k < 8 → cluster_part result k ≡ slice_index words.now k / 2 ^ content_bits }
 {
-    entry_from_word(word % (1 << CONTENT_BITS))
+    words.iter().rev().fold(0, |cluster, word| {
+        (cluster << CLUSTER_BITS) + (word >> CONTENT_BITS)
+    })
 }
 
 impl Line {
@@ -34,26 +34,11 @@ impl Line {
         ensures said { Unpacked bytes.now result }
         ensures back { (l : ALine) → packed l ≡ bytes.now → result ≡ Ok l }
     {
-        if bytes.len() != 64 {
+        let Ok(bytes) = <&[u8; 64]>::try_from(bytes) else {
             return Err(LineFault::NotALine);
-        }
-        let mut cluster = 0;
-        let mut entries = [None; 8];
-        for k in 0..8 {
-            let word = word_at(bytes, k);
-            let Some(entry) = entry_in(word) else {
-                return Err(LineFault::NotALine);
-            };
-            entries[k] = entry;
-            cluster += (word >> CONTENT_BITS) << (CLUSTER_BITS * k);
-        }
-        if cluster >= CLUSTERS {
-            return Err(LineFault::NotALine);
-        }
-        let present = any_present(&entries);
-        if cluster > 0 && !present {
-            return Err(LineFault::NotALine);
-        }
-        Ok(Line { cluster, entries })
+        };
+        let words: [u64; 8] = array::from_fn(|k| word_at(bytes, k));
+        let contents = words.map(|word| word % (1 << CONTENT_BITS));
+        Line::from_words(cluster_in(&words), contents).ok_or(LineFault::NotALine)
     }
 }
