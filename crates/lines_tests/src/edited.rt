@@ -1,10 +1,10 @@
 // Setting and clearing entries.
-use lines::{Entry, Line, LineFault, Mapping, Page};
+use lines::{Line, LineFault, Mapping, Page};
 use std::test::Fail;
 
 fn two_pages() -> Result<(Line, Mapping), LineFault> {
     let mapping = Mapping::new(6, 1)?;
-    let line = Line::only(Page::new(8)?, Mapping::new(5, 3)?);
+    let line = Line::only(Page::try_from(8)?, Mapping::new(5, 3)?);
     Ok((line.with(1, mapping), mapping))
 }
 
@@ -14,8 +14,8 @@ fn set_and_cleared(rt: HostRuntime) -> Result<(), Fail> {
         return Err(Fail::new("refused"));
     };
     let line = made.0;
-    assert!(rt; line.entry(1) == Entry::Present(made.1));
-    assert!(rt; line.entry(2) == Entry::Absent);
+    assert!(rt; line.entry(1) == Some(made.1));
+    assert!(rt; line.entry(2) == None);
     assert!(rt; line.is_of(1));
     assert!(rt; !line.is_of(0));
     let one = line.without(0);
@@ -36,7 +36,7 @@ fn past_the_eighth(rt: HostRuntime) -> Result<(), Fail> {
     let line = made.0;
     assert!(rt; line.with(8, made.1) == line);
     assert!(rt; line.without(8) == line);
-    assert!(rt; line.entry(8) == Entry::Absent);
+    assert!(rt; line.entry(8) == None);
     Ok(())
 }
 
@@ -45,7 +45,7 @@ fn cluster_zero(rt: HostRuntime) -> Result<(), Fail> {
     let Ok(mapping) = Mapping::new(5, 1) else {
         return Err(Fail::new("refused"));
     };
-    let Ok(page) = Page::new(0) else {
+    let Ok(page) = Page::try_from(0) else {
         return Err(Fail::new("refused"));
     };
     let line = Line::only(page, mapping);

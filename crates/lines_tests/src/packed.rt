@@ -1,10 +1,10 @@
 // Packed lines, whole and with every single bit turned over.
-use lines::{Entry, Line, LineFault, Mapping, Page};
+use lines::{Line, LineFault, Mapping, Page};
 use std::process::Abort;
 use std::test::Fail;
 
 fn only(page: u64, frame: u64, rights: u64) -> Result<Line, LineFault> {
-    Ok(Line::only(Page::new(page)?, Mapping::new(frame, rights)?))
+    Ok(Line::only(Page::try_from(page)?, Mapping::new(frame, rights)?))
 }
 
 // The line of the last cluster with the largest entry in each place.
@@ -39,10 +39,7 @@ fn damages(rt: &impl Abort, line: &Line) -> u32 {
 }
 
 fn is_refused(bytes: &[u8]) -> bool {
-    match Line::unpack(bytes) {
-        Ok(_) => false,
-        Err(fault) => fault == LineFault::NotALine,
-    }
+    Line::unpack(bytes) == Err(LineFault::NotALine)
 }
 
 #[test]
@@ -127,6 +124,22 @@ fn unpacks_back(rt: HostRuntime) -> Result<(), Fail> {
     };
     assert!(rt; back == line);
     assert!(rt; back.entry(3) == line.entry(7));
-    assert!(rt; back.entry(8) == Entry::Absent);
+    assert!(rt; back.entry(8) == None);
+    Ok(())
+}
+
+#[test]
+fn words_of_a_line(rt: HostRuntime) -> Result<(), Fail> {
+    let Ok(line) = only(9, 5, 3) else {
+        return Err(Fail::new("refused"));
+    };
+    let words = [0, 43, 0, 0, 0, 0, 0, 0];
+    assert_eq!(rt; line.words(), words);
+    assert!(rt; Line::from_words(1, words) == Some(line));
+    assert!(rt; Line::from_words(0, [0; 8]) == Some(Line::empty()));
+    // a cluster without an entry, a cluster that is too large, and a frame without rights
+    assert!(rt; Line::from_words(1, [0; 8]).is_none());
+    assert!(rt; Line::from_words(1 << 33, words).is_none());
+    assert!(rt; Line::from_words(1, [8; 8]).is_none());
     Ok(())
 }

@@ -1,23 +1,9 @@
 // The largest page, address, frame and rights, and one past each.
-use lines::{Address, Entry, LineFault, Mapping, Page};
+use lines::{Address, LineFault, Mapping, Page, entry_from_word, entry_word};
 use std::test::Fail;
 
-fn page_fault(number: u64) -> u64 {
-    match Page::new(number) {
-        Ok(_) => 0,
-        Err(fault) => fault.number(),
-    }
-}
-
-fn address_fault(number: u64) -> u64 {
-    match Address::new(number) {
-        Ok(_) => 0,
-        Err(fault) => fault.number(),
-    }
-}
-
-fn mapping_fault(frame: u64, rights: u64) -> u64 {
-    match Mapping::new(frame, rights) {
+fn fault_of<T: Drop>(made: Result<T, LineFault>) -> u64 {
+    match made {
         Ok(_) => 0,
         Err(fault) => fault.number(),
     }
@@ -25,24 +11,24 @@ fn mapping_fault(frame: u64, rights: u64) -> u64 {
 
 #[test]
 fn largest_page(rt: HostRuntime) -> Result<(), Fail> {
-    let Ok(page) = Page::new(68_719_476_735) else {
+    let Ok(page) = Page::try_from(68_719_476_735) else {
         return Err(Fail::new("refused"));
     };
     assert_eq!(rt; page.cluster(), 8_589_934_591);
     assert_eq!(rt; page.position(), 7);
-    assert_eq!(rt; page_fault(68_719_476_736), 3);
-    assert_eq!(rt; page_fault(u64::MAX), 3);
+    assert_eq!(rt; fault_of(Page::try_from(68_719_476_736)), 3);
+    assert_eq!(rt; fault_of(Page::try_from(u64::MAX)), 3);
     Ok(())
 }
 
 #[test]
 fn largest_address(rt: HostRuntime) -> Result<(), Fail> {
-    let Ok(address) = Address::new(281_474_976_710_655) else {
+    let Ok(address) = Address::try_from(281_474_976_710_655) else {
         return Err(Fail::new("refused"));
     };
     assert_eq!(rt; address.page().number, 68_719_476_735);
     assert_eq!(rt; address.offset(), 4095);
-    assert_eq!(rt; address_fault(281_474_976_710_656), 3);
+    assert_eq!(rt; fault_of(Address::try_from(281_474_976_710_656)), 3);
     Ok(())
 }
 
@@ -59,20 +45,20 @@ fn frames_and_rights(rt: HostRuntime) {
         (0, 257, 5),
     ];
     for (frame, rights, fault) in cases.iter() {
-        assert_eq!(rt; mapping_fault(*frame, *rights), *fault);
+        assert_eq!(rt; fault_of(Mapping::new(*frame, *rights)), *fault);
     }
 }
 
 #[test]
 fn places(rt: HostRuntime) -> Result<(), Fail> {
-    let Ok(address) = Address::new(7) else {
+    let Ok(address) = Address::try_from(7) else {
         return Err(Fail::new("refused"));
     };
     let Ok(mapping) = Mapping::new(5, 3) else {
         return Err(Fail::new("refused"));
     };
     assert_eq!(rt; mapping.place(address), 20487);
-    assert_eq!(rt; Entry::Present(mapping).word(), 43);
+    assert_eq!(rt; entry_word(Some(mapping)), 43);
     Ok(())
 }
 
@@ -80,14 +66,14 @@ fn places(rt: HostRuntime) -> Result<(), Fail> {
 fn words(rt: HostRuntime) -> Result<(), Fail> {
     let none = [8, 16, 1 << 37, (1 << 37) + 1, u64::MAX];
     for word in none.iter() {
-        assert!(rt; Entry::from_word(*word).is_none());
+        assert!(rt; entry_from_word(*word).is_none());
     }
     let some = [0, 1, 43, (1 << 37) - 1];
     for word in some.iter() {
-        let Some(entry) = Entry::from_word(*word) else {
+        let Some(entry) = entry_from_word(*word) else {
             return Err(Fail::new("no entry"));
         };
-        assert_eq!(rt; entry.word(), *word);
+        assert_eq!(rt; entry_word(entry), *word);
     }
     Ok(())
 }

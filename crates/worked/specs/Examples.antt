@@ -1,6 +1,6 @@
 -- The worked examples of the rules, in one sentence over the definitions that the contracts cite.
 use Rattle.std.specs.Prelude.{◌∷◌, ◌++◌, ◌≡◌, ℕ, replicate}
-use Rattle.std.specs.Prelude.{Some, None}
+use Rattle.std.specs.Prelude.{Some}
 use Rattle.lines.specs.declared.entries.Mapping.{Mapping}
 use Rattle.lines.specs.declared.rows.Line.{Line}
 use Rattle.lines.specs.Entries.{word_of}
