@@ -1,8 +1,10 @@
 -- Bytes and the one line that packs to them.
-use Rattle.std.proofs.Common.{◌≡◌, ℕ, ◌+◌, ◌*◌, ◌/◌, ◌%◌, ◌^◌, ◌<◌, List, ◌∷◌, map, length, get_or, Ok, Err, Result, sym, refl, ap, ◌∙◌, subst, add-zero, arith, rules}
+use Rattle.std.proofs.Common.{◌≡◌, ℕ, zero, suc, ◌+◌, ◌*◌, ◌/◌, ◌%◌, ◌^◌, ◌<◌, List, [], ◌∷◌, map, drop, length, get_or, w64, Ok, Err, Result, sym, refl, ap, ◌∙◌, subst, add-zero, arith, rules}
 use Rattle.std.proofs.lemmas.List.FromFn.{fill_by_all, length-map-range_with_len, get_or-map-range_with_len}
-use Rattle.std.proofs.lemmas.List.{ext_get_or, get_or-map, length-map}
+use Rattle.std.proofs.lemmas.List.{ext_get_or, get_or-drop, get_or-map, get_or-take, length-map}
+use Rattle.std.specs.Int.{from_le_bytes}
 use Rattle.std.specs.Option.{ok_or}
+use Rattle.std.specs.Simd.{first_chunks}
 use Rattle.std.specs.Prelude.{Option, Some, None, MatchOption}
 use Rattle.lines.specs.declared.faults.LineFault.{LineFault}
 use Rattle.lines.specs.declared.faults.LineFault.TheVariants.{NotALine}
@@ -46,6 +48,21 @@ packed-word_at l bs e k p =
     let at : (j : ℕ) → j < 8 → get_or bs (8 * k + j) 0 ≡ byte_of (packed_word l k) j = λ j q. sym (ap (λ xs. get_or xs (8 * k + j) 0) e) ∙ packed_at l k j p q in
     let first : get_or bs (8 * k) 0 ≡ byte_of (packed_word l k) 0 = simp add-zero at (at 0 (omega arith)) in
     omega (arith, joined_bytes (packed_word l k) (packed_word_lt l k), first, at 1 (omega arith), at 2 (omega arith), at 3 (omega arith), at 4 (omega arith), at 5 (omega arith), at 6 (omega arith), at 7 (omega arith))
+
+chunk_at : (m : ℕ) (bs : List ℕ) (k j : ℕ) → k < m → j < 8 → get_or (get_or (first_chunks 8 m bs) k []) j 0 ≡ get_or bs (8 * k + j) 0
+chunk_at zero bs k j h i = absurd (omega arith)
+chunk_at (suc m) bs zero j h i = get_or-take 8 bs j 0 i ∙ ap (λ n. get_or bs n 0) (omega arith)
+chunk_at (suc m) bs (suc k) j h i =
+    chunk_at m (drop 8 bs) k j (omega arith) i ∙ get_or-drop 8 bs (8 * k + j) 0 ∙ ap (λ n. get_or bs n 0) (omega arith)
+
+chunk_reads : (cs bs : List ℕ) (k : ℕ) → ((j : ℕ) → j < 8 → get_or cs j 0 ≡ get_or bs (8 * k + j) 0) → from_le_bytes w64 cs ≡ word_at bs k
+chunk_reads cs bs k at =
+    let first : get_or cs 0 0 ≡ get_or bs (8 * k) 0 = simp add-zero at (at 0 (omega arith)) in
+    omega (arith, first, at 1 (omega arith), at 2 (omega arith), at 3 (omega arith), at 4 (omega arith), at 5 (omega arith), at 6 (omega arith), at 7 (omega arith))
+
+-- a chunk of eight bytes, read low byte first, is the word at its place
+pub chunk_word : (bs : List ℕ) (k : ℕ) → k < 8 → from_le_bytes w64 (get_or (first_chunks 8 8 bs) k []) ≡ word_at bs k
+chunk_word bs k h = chunk_reads (get_or (first_chunks 8 8 bs) k []) bs k (λ j i. chunk_at 8 bs k j h i)
 
 -- what unpack has read of the bytes: a cluster, and the words of the entries
 pub record Read (bs : List ℕ) (c : ℕ) (ws : List ℕ) : Type 0 where

@@ -11,9 +11,9 @@ use crate::numbers::Page;
 use crate::rows::Line;
 use crate::words::{entry_from_word, entry_word};
 
-pub(crate) const CLUSTERS: u64 = 1 << 33;
+const CLUSTERS: u64 = 1 << 33;
 
-pub(crate) fn any_present(entries: &[Entry; 8]) -> bool
+fn any_present(entries: &[Entry; 8]) -> bool
     ensures { result ≡ any_present entries.now }
 {
     entries.iter().any(Option::is_some)

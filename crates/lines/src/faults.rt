@@ -14,6 +14,7 @@ pub enum LineFault {
 }
 
 impl LineFault {
+    // the rules' name of the refusal: it is told, and no value is made of it, so it is no conversion
     pub fn number(self) -> u64
         ensures { told self ≡ result ∷ [] }
     {

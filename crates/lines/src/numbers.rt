@@ -1,7 +1,7 @@
 // Addresses and pages, which cannot be too large.
 ghost use Rattle.std.specs.Prelude.{◌^◌, ◌<◌};
 
-// Two types and not one with its bound as a parameter: they share no method, and each name says what it counts.
+// Two types and not one with its bound as a parameter: they share only how they are made, and each name says what is counted.
 
 // a bytecode address of a controller
 #[derive(Clone, Copy, PartialEq, Eq, Debug)]

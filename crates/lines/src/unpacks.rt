@@ -1,22 +1,13 @@
 // The line that bytes are the packed form of.
 ghost use Rattle.std.specs.Prelude.{◌≡◌, ℕ, ◌/◌, ◌^◌, ◌<◌, slice_index, Ok};
 ghost use Rattle.lines.specs.declared.rows.Line.{Line as ALine};
-ghost use Rattle.lines.specs.Packs.{cluster_part, content_bits, packed, word_at};
+ghost use Rattle.lines.specs.Packs.{cluster_part, content_bits, packed};
 ghost use Rattle.lines.specs.Refusals.{Unpacked};
 
 use crate::faults::LineFault;
 use crate::packs::{CLUSTER_BITS, CONTENT_BITS};
 use crate::rows::Line;
 use std::array;
-
-fn word_at(bytes: &[u8; 64], k: usize) -> u64
-    requires { k < 8 }
-    ensures { result ≡ word_at bytes.now k }
-{
-    let mut word = [0; 8];
-    word.copy_from_slice(&bytes[8 * k..8 * k + 8]);
-    u64::from_le_bytes(word)
-}
 
 // the cluster whose parts stand at the tops of the words
 fn cluster_in(words: &[u64; 8]) -> u64
@@ -34,10 +25,11 @@ impl Line {
         ensures said { Unpacked bytes.now result }
         ensures back { (l : ALine) → packed l ≡ bytes.now → result ≡ Ok l }
     {
-        let Ok(bytes) = <&[u8; 64]>::try_from(bytes) else {
+        if bytes.len() != 64 {
             return Err(LineFault::NotALine);
-        };
-        let words: [u64; 8] = array::from_fn(|k| word_at(bytes, k));
+        }
+        let (chunks, _) = bytes.as_chunks::<8>();
+        let words: [u64; 8] = array::from_fn(|k| u64::from_le_bytes(chunks[k]));
         let contents = words.map(|word| word % (1 << CONTENT_BITS));
         Line::from_words(cluster_in(&words), contents).ok_or(LineFault::NotALine)
     }
