@@ -1,22 +1,8 @@
 -- The parts of bytes, from a cut at the first mark.
-use Rattle.std.proofs.Common.{◌≡◌, ℕ, suc, ◌+◌, ◌-◌, ◌<◌, ◌≤◌, eqb, List, [], ◌∷◌, ◌++◌, length, get_or, take, drop, Some, None, Option, unwrap_or, sym, refl, ap, ◌∙◌, append_assoc, arith, Bor, MatchOption}
-use Rattle.std.proofs.lemmas.List.{take-append-drop, take_rest, drop_more, drop_all, drop_at, get_or-take, length-take-le, length-append, length_push}
+use Rattle.std.proofs.Common.{◌≡◌, ℕ, suc, ◌+◌, ◌<◌, eqb, List, [], ◌∷◌, ◌++◌, length, drop, Some, None, Option, unwrap_or, sym, refl, ap, ◌∙◌, append_assoc, arith, Bor, MatchOption}
+use Rattle.std.proofs.lemmas.List.{drop_all, drop_at, length-append, length_push}
 use Rattle.std.proofs.lemmas.Bool.{eq-eqb, ne_eqb, cond-true, cond-false}
 use Rattle.reading.specs.Parts.{before, parted, lines_of, fields_of, Lacks, CutAt, FirstLine}
-
--- the part before index i, where no byte below i is the mark
-pub lacks_take : (mark : ℕ) (bytes : List ℕ) (i : ℕ) → i ≤ length bytes → ((k : ℕ) → k < i → get_or bytes k 0 ≡ mark → ⊥) → Lacks mark (take i bytes)
-lacks_take mark bytes i l h k p e =
-    let q : k < i = omega (arith, length-take-le i bytes l) in
-    h k q (sym (get_or-take i bytes k 0 q) ∙ e)
-
--- bytes around index i, in the form that slices have
-pub cut_here : (mark : ℕ) (bytes : List ℕ) (i : ℕ) → i < length bytes → get_or bytes i 0 ≡ mark → bytes ≡ take i bytes ++ mark ∷ take (length bytes - (i + 1)) (drop (i + 1) bytes)
-cut_here mark bytes i l e =
-    let d = drop_more bytes i 0 l in
-    let r = take_rest bytes (i + 1) in
-    let t = take-append-drop i bytes in
-    cc
 
 lacks_rest : (mark b : ℕ) (bs : List ℕ) → Lacks mark (b ∷ bs) → Lacks mark bs
 lacks_rest mark b bs h i l = h (suc i) (omega arith)

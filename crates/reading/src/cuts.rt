@@ -5,10 +5,8 @@ ghost use Rattle.reading.specs.Parts.{CutAt};
 pub fn cut(bytes: &[u8], mark: u8) -> (&[u8], Option<&[u8]>)
     ensures { CutAt mark bytes.now result.0.now result.1 }
 {
-    for (i, byte) in bytes.iter().enumerate() {
-        if *byte == mark {
-            return (&bytes[0..i], Some(&bytes[i + 1..]));
-        }
+    match bytes.iter().position(|byte| *byte == mark) {
+        Some(i) => (&bytes[..i], Some(&bytes[i + 1..])),
+        None => (bytes, None),
     }
-    (bytes, None)
 }

@@ -8,6 +8,7 @@ use crate::cuts::cut;
 // With so many digits every number fits.
 const MOST_DIGITS: usize = 15;
 
+// No plainer by `char::to_digit`, which wants a char and a radix and answers a u32.
 fn digit(byte: u8) -> Option<u64>
     ensures { result ≡ digit_of byte }
 {
@@ -17,7 +18,7 @@ fn digit(byte: u8) -> Option<u64>
     }
 }
 
-// The number that a field writes.
+// The number that a field writes. `parse` would take a sign too.
 pub fn number(field: &[u8]) -> Option<u64>
     ensures { result ≡ number_of field.now }
 {
@@ -25,6 +26,7 @@ pub fn number(field: &[u8]) -> Option<u64>
         return None;
     }
     let mut value = 0;
+    // A `try_fold` is no plainer: what bounds the sum is a fact about the bytes read so far.
     for byte in field {
         value = 10 * value + digit(*byte)?;
     }

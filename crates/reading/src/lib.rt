@@ -7,4 +7,4 @@ mod texts;
 
 pub use cuts::cut;
 pub use fields::{number, three_numbers};
-pub use texts::first_line;
+pub use texts::{Lines, first_line};

@@ -1,6 +1,7 @@
 // Takes a text apart line by line.
 ghost use Rattle.std.specs.Prelude.{◌≡◌, [], MatchOption};
-ghost use Rattle.reading.specs.Parts.{FirstLine};
+ghost use Rattle.std.specs.Iterator.{YieldsFirstRef, item_count};
+ghost use Rattle.reading.specs.Parts.{FirstLine, lines_of};
 
 use crate::cuts::cut;
 
@@ -13,4 +14,36 @@ pub fn first_line(text: &[u8]) -> Option<(&[u8], &[u8])>
     }
     let (line, rest) = cut(text, b'\n');
     Some((line, rest.unwrap_or(&[])))
+}
+
+// The lines of a text, one after another.
+#[derive(Drop)]
+pub struct Lines<'a> {
+    left: &'a [u8],
+}
+
+impl<'a> Lines<'a> {
+    ghost use Rattle.reading.specs.Lines.{lines_left};
+
+    pub fn new(text: &'a [u8]) -> Lines<'a>
+        ensures { lines_left result ≡ lines_of text.now }
+    {
+        Lines { left: text }
+    }
+}
+
+impl<'a> Iterator for Lines<'a> {
+    ghost use Rattle.reading.specs.Lines.{lines_left};
+
+    type Item = &'a [u8];
+
+    ghost next_gives = { YieldsFirstRef lines_left };
+
+    ghost remaining = { item_count lines_left };
+
+    fn next(&mut self) -> Option<&'a [u8]> {
+        let (line, rest) = first_line(self.left)?;
+        self.left = rest;
+        Some(line)
+    }
 }
