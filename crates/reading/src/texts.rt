@@ -1,6 +1,6 @@
 // Takes a text apart line by line.
-ghost use Rattle.std.specs.Prelude.{◌≡◌, [], MatchOption};
-ghost use Rattle.std.specs.Iterator.{YieldsFirstRef, item_count};
+ghost use Rattle.std.specs.Prelude.{◌≡◌, [], length, MatchOption};
+ghost use Rattle.std.specs.Iterator.{YieldsFirstRef, at_most};
 ghost use Rattle.reading.specs.Parts.{FirstLine, lines_of};
 
 use crate::cuts::cut;
@@ -39,7 +39,8 @@ impl<'a> Iterator for Lines<'a> {
 
     ghost next_gives = { YieldsFirstRef lines_left };
 
-    ghost remaining = { item_count lines_left };
+    // a line takes a byte at least
+    ghost remaining = { λ it. at_most (length it.left.now) };
 
     fn next(&mut self) -> Option<&'a [u8]> {
         let (line, rest) = first_line(self.left)?;

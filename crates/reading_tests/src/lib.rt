@@ -1,28 +1,22 @@
-// Tests of reading: tables of fields, lines and texts, and a loop over all lines of a text.
+// Tests of reading: tables of fields, lines and texts, and a count of the lines of a text.
 #![tactic(auto)]
 
 ghost use Rattle.std.specs.Prelude.{◌≡◌, length};
 ghost use Rattle.reading.specs.Parts.{lines_of};
 
-use reading::first_line;
+use reading::Lines;
 
 // How many lines a text has.
 fn count_lines(text: &[u8]) -> usize
     ensures { result ≡ length (lines_of text.now) }
 {
-    let mut count = 0;
-    let mut left = text;
-    while let Some((_, rest)) = first_line(left) {
-        count += 1;
-        left = rest;
-    }
-    count
+    Lines::new(text).count()
 }
 
 #[cfg(test)]
 mod tests {
     use super::*;
-    use reading::{cut, number, three_numbers};
+    use reading::{cut, first_line, number, three_numbers};
     use std::test::Fail;
 
     #[test]
@@ -139,6 +133,16 @@ mod tests {
             assert_eq!(rt; line, *first);
             assert_eq!(rt; rest, *behind);
         }
+        Ok(())
+    }
+
+    #[test]
+    fn lines_in_turn(rt: HostRuntime) -> Result<(), Fail> {
+        let mut lines = Lines::new(b"1,2\r\n\n3");
+        assert_eq!(rt; lines.next().ok_or("no line")?, b"1,2\r".as_slice());
+        assert_eq!(rt; lines.next().ok_or("no line")?, b"".as_slice());
+        assert_eq!(rt; lines.next().ok_or("no line")?, b"3".as_slice());
+        assert!(rt; lines.next().is_none());
         Ok(())
     }
 

@@ -1,7 +1,6 @@
 -- One more digit fits, and what `number` returns.
 use Rattle.std.proofs.Common.{get_or, sym, ◌∙◌, arith}
-use Rattle.std.proofs.lemmas.Bool.{eqb-false}
-use Rattle.reading.proofs.Digits.{value_small, digit_small, read_more, read_all, read_none}
+use Rattle.reading.proofs.Digits.{value_small, digit_small, read_more, read_none}
 use Rattle.reading.proofs.fields.number.Goals as goal
 
 pub overflow_mul-value : goal.overflow_mul-value
@@ -16,7 +15,3 @@ loop-byte-preserved c = read_more c.loop-byte.invariant _ c.loop-byte-test.true 
 
 pub returns-in_err-value : goal.returns-in_err-value
 returns-in_err-value c = c.from_residual.ensures ∙ sym (read_none _ _ c.loop-byte-test.true (sym c.in_err-value.ensures))
-
-pub returns : goal.returns
-returns c =
-    read_all c.loop-byte.invariant c.loop-byte-test.false (omega (arith, eqb-false _ 0 (sym c.if-is_empty.ensures))) c.if-field-gt-MOST_DIGITS.false

@@ -1,12 +1,8 @@
 -- What `first_line` returns, from its cut at the end of a line.
 use Rattle.std.proofs.Common.{sym, refl, arith}
-use Rattle.std.proofs.lemmas.List.{nil_from_length}
-use Rattle.std.proofs.lemmas.Bool.{eqb-true, eqb-false}
+use Rattle.std.proofs.lemmas.Bool.{eqb-false}
 use Rattle.reading.proofs.Parting.{first_cut}
 use Rattle.reading.proofs.texts.first_line.Goals as goal
-
-pub returns-then-is_empty : goal.returns-then-is_empty
-returns-then-is_empty c = nil_from_length _ (eqb-true _ 0 (sym c.if-is_empty.ensures))
 
 pub returns : goal.returns
 returns c =
