@@ -4,7 +4,7 @@ ghost use Rattle.families.specs.Digits.{digit_number};
 ghost use Rattle.std.proofs.Common.{rules};
 
 use crate::family::Family;
-use crate::range::is_known;
+use crate::range::KnownCluster;
 
 #[derive(Clone, Copy, Debug)]
 pub struct Digit;
@@ -16,12 +16,8 @@ impl Family for Digit {
 
     ghost elsewhere = { Prim.search rules };
 
-    fn number_of(&self, way: usize, cluster: u64) -> u32 {
-        if is_known(way, cluster) {
-            (without_digits(cluster, way) % (1 << 32)) as u32
-        } else {
-            0
-        }
+    fn known_number(&self, at: KnownCluster) -> u32 {
+        (without_digits(at.cluster, at.way) % (1 << 32)) as u32
     }
 }
 

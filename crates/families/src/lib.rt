@@ -12,4 +12,5 @@ pub mod tables;
 pub use digits::Digit;
 pub use family::Family;
 pub use mixes::Mix;
+pub use range::KnownCluster;
 pub use tables::Table;

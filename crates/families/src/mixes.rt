@@ -5,7 +5,7 @@ ghost use Rattle.families.specs.Small.{mix_number_small};
 ghost use Rattle.std.proofs.Common.{rules};
 
 use crate::family::Family;
-use crate::range::is_known;
+use crate::range::KnownCluster;
 use crate::rotation::rotated;
 
 const FOLD: u32 = 0x9E37_79B9;
@@ -22,12 +22,8 @@ impl Family for Mix {
 
     ghost elsewhere = { Prim.search rules };
 
-    fn number_of(&self, way: usize, cluster: u64) -> u32 {
-        if is_known(way, cluster) {
-            rotated(fold(cluster).wrapping_mul(MULTIPLIERS[way]), 16)
-        } else {
-            0
-        }
+    fn known_number(&self, at: KnownCluster) -> u32 {
+        rotated(fold(at.cluster).wrapping_mul(MULTIPLIERS[at.way]), 16)
     }
 }
 

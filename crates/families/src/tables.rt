@@ -6,7 +6,7 @@ ghost use Rattle.std.proofs.Common.{rules};
 
 use crate::constants::table_at;
 use crate::family::Family;
-use crate::range::is_known;
+use crate::range::KnownCluster;
 use crate::rotation::rotated;
 
 #[derive(Clone, Copy, Debug)]
@@ -19,12 +19,8 @@ impl Family for Table {
 
     ghost elsewhere = { Prim.search rules };
 
-    fn number_of(&self, way: usize, cluster: u64) -> u32 {
-        if is_known(way, cluster) {
-            rotated(join(cluster), 11 * way as u32)
-        } else {
-            0
-        }
+    fn known_number(&self, at: KnownCluster) -> u32 {
+        rotated(join(at.cluster), 11 * at.way as u32)
     }
 }
 
