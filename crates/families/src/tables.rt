@@ -28,11 +28,7 @@ impl Family for Table {
 fn join(cluster: u64) -> u32
     ensures { result ≡ joined cluster 5 }
 {
-    let mut all = 0;
-    for j in 0..5 {
-        all ^= choose(cluster, j);
-    }
-    all
+    (0..5).fold(0, |all, j| all ^ choose(cluster, j))
 }
 
 // Each byte has 256 numbers of the table to itself.
