@@ -1,6 +1,4 @@
 -- The lemmas of `layout`.
-pub mod Filling
-pub mod Readying
+pub mod Joining
 pub mod Entering
-pub mod Answering
 pub mod Running

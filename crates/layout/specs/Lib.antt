@@ -2,5 +2,4 @@
 pub mod Lists
 pub mod Refusals
 pub mod Sheets
-pub mod Blanks
 pub mod Steps

@@ -1,11 +1,11 @@
 -- What lines laid out hold, and when they are those of a list.
-use Rattle.std.specs.Prelude.{◌≡◌, ℕ, ◌+◌, true, List, map, length, Some, None, vec_items, vec_len, box_value, Option, Box}
+use Rattle.std.specs.Prelude.{◌≡◌, ℕ, ◌+◌, true, List, map, length, Some, None, vec_items, vec_len, Option}
 use Rattle.std.specs.BTreeMap.{IsOrdered, get}
 use Rattle.std.specs.BTreeMap.{BTreeMap}
-use Rattle.lines.specs.declared.entries.Entry.{Entry}
-use Rattle.lines.specs.declared.entries.Entry.TheVariants.{Absent}
+use Rattle.std.specs.Option.{ForSome}
+use Rattle.std.specs.Ordering.{nat_cmp}
 use Rattle.lines.specs.declared.rows.Line.{Line}
-use Rattle.lines.specs.Entries.{word_of}
+use Rattle.lines.specs.Entries.{Entry, word_of}
 use Rattle.lines.specs.Lines.{entry_at, is_of}
 use Rattle.lines.specs.Numbers.{cluster_of, position_of}
 use Rattle.reading.specs.Parts.{lines_of}
@@ -13,32 +13,24 @@ use Rattle.layout.specs.declared.sheets.Layout.{Layout}
 use Rattle.layout.specs.declared.sheets.Refusal.{Refusal}
 use Rattle.layout.specs.Lists.{Book, bare, book_of, refusals_of}
 use Rattle.layout.specs.Refusals.{told}
-use Rattle.std.specs.Ordering.{nat_cmp}
 
 -- a refusal as two numbers: its line and its own
 abbrev pub refusal : Refusal → ℕ × List ℕ
 refusal r = (r.line, told r.fault)
 
-module _ {Y : Type 0} where
-  -- the entry at a position of a line that may be missing
-  abbrev pub entry_in : Option (Box Line Y) → ℕ → Entry
-  entry_in None k = Absent
-  entry_in (Some b) k = entry_at (box_value b) k
+-- the entry at a position of a line that may be missing
+abbrev pub entry_in : Option Line → ℕ → Entry
+entry_in None k = None
+entry_in (Some l) k = entry_at l k
 
-  -- a line that is there is of the cluster that it stands under
-  abbrev pub Own : ℕ → Option (Box Line Y) → Type 0
-  Own c None = Unit {0}
-  Own c (Some b) = is_of c (box_value b) ≡ true
+-- the word of a page's entry in the lines
+abbrev pub word_in : BTreeMap ℕ Line → Book
+word_in m p = word_of (entry_in (get nat_cmp m (cluster_of p)) (position_of p))
 
-module _ {Y : Type 0} where
-  -- the word of a page's entry in the lines
-  abbrev pub word_in : BTreeMap ℕ (Box Line Y) → Book
-  word_in m p = word_of (entry_in (get nat_cmp m (cluster_of p)) (position_of p))
-
-  -- the lines stand in the order of their clusters, each under its own
-  pub record Sound (m : BTreeMap ℕ (Box Line Y)) : Type 0 where
-    pub ordered : IsOrdered nat_cmp m
-    pub own : (c : ℕ) → Own c (get nat_cmp m c)
+-- the lines stand in the order of their clusters, each under its own
+pub record Sound (m : BTreeMap ℕ Line) : Type 0 where
+  pub ordered : IsOrdered nat_cmp m
+  pub own : (c : ℕ) → ForSome (get nat_cmp m c) (λ l. is_of c l ≡ true)
 
 -- a layout is that of a list
 pub record LaidOut (list : List ℕ) (t : Layout) : Type 0 where

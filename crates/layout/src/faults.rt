@@ -5,7 +5,7 @@ ghost use Rattle.layout.specs.Refusals.{told};
 
 use lines::LineFault;
 
-#[derive(Clone, Copy)]
+#[derive(Clone, Copy, PartialEq, Eq, Debug)]
 pub enum ListFault {
     // the page, the frame or the rights
     Line(LineFault),

@@ -1,9 +1,9 @@
 // Lays a list of pages out as lines, and says which of its lines are refused.
 #![tactic(auto)]
 
-mod blanks;
 mod calls;
 mod faults;
+mod listed;
 mod sheets;
 mod steps;
 

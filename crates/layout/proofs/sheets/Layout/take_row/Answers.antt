@@ -1,30 +1,26 @@
 -- What the search leaves to show of `take_row`.
-use Rattle.std.proofs.Common.{[], ◌∷◌, ◌++◌, map, Err, vec_items, vec_len, sym, ap, ◌∙◌, subst, arith}
-use Rattle.std.proofs.lemmas.List.{map_push}
+use Rattle.std.proofs.Common.{ℕ, List, ◌++◌, map, vec_items, sym, ap, ◌∙◌, append-nil, arith}
 use Rattle.reading.specs.Numbers.{three_of}
-use Rattle.layout.specs.Lists.{row_refusal}
-use Rattle.layout.specs.Blanks.{Loose}
-use Rattle.layout.specs.Sheets.{refusal, word_in}
-use Rattle.layout.specs.Steps.{Answered}
-use Rattle.layout.proofs.Answering.{noted_some}
+use Rattle.layout.specs.Sheets.{refusal}
+use Rattle.layout.proofs.Entering.{own_still, of_its_cluster, book_after, none_noted}
 use Rattle.layout.proofs.sheets.Layout.take_row.Goals as goal
 
-pub returns-in_ok-push-in-Err : goal.returns-in_ok-push-in-Err
-returns-in_ok-push-in-Err c =
+pub invariant_of-self-in-Ok : goal.invariant_of-self-in-Ok
+invariant_of-self-in-Ok c = record {
+  ordered = c.in_ok-insert-in-Ok.ensures.ordered;
+  own =
+      own_still c.args.self.now.lines c.insert.new.self c.in-Ok.entered c.in_ok-insert-in-Ok.ensures.updates
+      (of_its_cluster c.args.self.now.lines (three_of c.args.row.now) c.in-Ok.entered c.in-Ok.ensures) c.args.self.now.own;
+}
+
+pub returns-in_ok-insert-in-Ok : goal.returns-in_ok-insert-in-Ok
+returns-in_ok-insert-in-Ok c =
     let m = c.args.self.now.lines in
-    let n = c.enter_row.new.self.lines in
     let t = three_of c.args.row.now in
-    let a : Answered m t (Err c.in-Err.fault) n = subst (λ s. Answered m t s n) c.in-Err.is c.in_ok-enter_row.ensures.lines in
-    let kept = c.in_ok-enter_row.ensures.refused in
-    let pushed = c.in_ok-push-in-Err.ensures in
+    let l = c.in-Ok.entered in
+    let before : List (ℕ × List ℕ) = map refusal (vec_items c.args.self.now.refused) in
     record {
-      loose = subst Loose (sym a.2) c.requires.loose;
-      filled = a.4;
-      book = ap word_in a.2 ∙ sym a.3;
-      refused =
-          ap (map refusal) (pushed.items ∙ ap (λ v. vec_items v ++ (record { line = c.args.line; fault = c.in-Err.fault }) ∷ []) kept)
-          ∙ map_push refusal (vec_items c.args.self.now.refused) _
-          ∙ ap (λ x. map refusal (vec_items c.args.self.now.refused) ++ (c.args.line, x) ∷ []) a.0
-          ∙ ap (λ xs. map refusal (vec_items c.args.self.now.refused) ++ xs) (sym (noted_some c.args.line (row_refusal (word_in m) t) a.1));
-      pages = omega (arith, pushed.len, ap vec_len kept, c.in_ok-enter_row.ensures.pages);
+      book = book_after m c.insert.new.self l c.in_ok-insert-in-Ok.ensures.updates t c.in-Ok.ensures;
+      refused = sym (ap (λ said. before ++ said) (none_noted m c.args.line t l c.in-Ok.ensures) ∙ append-nil before);
+      pages = omega arith;
     }
