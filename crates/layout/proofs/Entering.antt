@@ -1,5 +1,5 @@
 -- What entering one page's line does to the lines and to the words of all pages.
-use Rattle.std.proofs.Common.{◌≡◌, ℕ, ◌+◌, ◌*◌, true, cond, not, eqb, Some, None, Ok, Option, [], refl, sym, ap, ◌∙◌, subst, ⊎_elim, arith, eq-eqb, ne_eqb, eqb-true, rules, tests}
+use Rattle.std.proofs.Common.{◌≡◌, ℕ, ◌+◌, ◌*◌, true, cond, not, eqb, Some, None, Ok, Option, [], refl, sym, ap, ◌∙◌, ⊎_elim, arith, eq-eqb, ne_eqb, eqb-true, rules}
 use mathlib.Core.Path.{fun_ext}
 use Rattle.std.proofs.lemmas.Bool.{and_parts, and_from, cases_eq}
 use Rattle.std.proofs.lemmas.Grind.{common_steps}
@@ -8,11 +8,10 @@ use Rattle.std.specs.Cmp.{unsigned_tied}
 use Rattle.std.specs.Ordering.{nat_cmp}
 use Rattle.std.specs.Option.{ForSome}
 use Rattle.lines.specs.declared.rows.Line.{Line}
-use Rattle.lines.specs.Entries.{word_of}
 use Rattle.lines.specs.Lines.{is_empty, is_of}
 use Rattle.lines.specs.Numbers.{cluster_of, position_of}
 use Rattle.layout.specs.Lists.{entered, row_entered, row_refusal, noted}
-use Rattle.layout.specs.Sheets.{entry_in, word_in}
+use Rattle.layout.specs.Sheets.{word_in}
 use Rattle.layout.specs.Steps.{Joined, Answered}
 
 -- in one cluster, pages are told apart by their positions
@@ -31,17 +30,10 @@ module _ (m n : BTreeMap ℕ Line) (l : Line) (put : Updates nat_cmp m n l.clust
     its_cluster = eqb-true l.cluster (cluster_of p) (and_parts (not (is_empty l)) _ j.own).1
 
     in_cluster : (q : ℕ) → cluster_of q ≡ cluster_of p → word_in n q ≡ entered (word_in m) p w q
-    in_cluster q e =
-        ap (λ c. word_of (entry_in (get nat_cmp n c) (position_of q))) (e ∙ sym its_cluster)
-        ∙ ap (λ o. word_of (entry_in o (position_of q))) put.1
-        ∙ j.words (position_of q)
-        ∙ ap (λ t. cond t w (word_of (entry_in (get nat_cmp m (cluster_of p)) (position_of q)))) (position_tells q p e)
-        ∙ ap (λ c. cond (eqb q p) w (word_of (entry_in (get nat_cmp m c) (position_of q)))) (sym e)
+    in_cluster q e = let c = its_cluster in let w = j.words (position_of q) in let t = position_tells q p e in search rules
 
     elsewhere : (q : ℕ) → (cluster_of q ≡ cluster_of p → ⊥) → word_in n q ≡ entered (word_in m) p w q
-    elsewhere q d =
-        ap (λ o. word_of (entry_in o (position_of q))) (other (cluster_of q) (λ e. d (e ∙ its_cluster)))
-        ∙ sym (ap (λ t. cond t w (word_in m q)) (ne_eqb q p (λ s. d (ap cluster_of s))))
+    elsewhere q d = let c = its_cluster in let o = other (cluster_of q) (λ e. d (e ∙ its_cluster)) in search rules
 
     entered_words : word_in n ≡ entered (word_in m) p w
     entered_words = fun_ext (λ q. ⊎_elim (in_cluster q) (elsewhere q) (cases_eq (cluster_of q) (cluster_of p)))

@@ -1,5 +1,5 @@
 -- A page set in its cluster's line.
-use Rattle.std.proofs.Common.{◌≡◌, ℕ, zero, suc, ◌+◌, ◌*◌, ◌<◌, true, false, cond, not, ◌&&◌, eqb, List, [], ◌∷◌, length, get_or, set, is_some, Some, None, Option, sym, refl, ap, ◌∙◌, ⊎_elim, arith, get_or-set_other, get_or-set_same, eq-eqb, ne_eqb, eqb-true, rules, tests}
+use Rattle.std.proofs.Common.{◌≡◌, ℕ, zero, suc, ◌+◌, ◌*◌, ◌<◌, true, cond, not, eqb, List, [], ◌∷◌, length, get_or, set, Some, None, refl, ap, ◌∙◌, ⊎_elim, arith, eqb-true, rules}
 use Rattle.std.proofs.lemmas.Bool.{and_parts, cases_eq}
 use Rattle.std.specs.BTreeMap.{BTreeMap, get}
 use Rattle.std.specs.Ordering.{nat_cmp}
@@ -8,7 +8,6 @@ use Rattle.lines.specs.declared.rows.Line.{Line}
 use Rattle.lines.specs.Entries.{Entry, word_of, any_present}
 use Rattle.lines.specs.Lines.{entry_at, is_empty, is_of, Holds}
 use Rattle.lines.specs.Numbers.{cluster_of, position_of}
-use Rattle.layout.specs.Sheets.{entry_in, word_in}
 use Rattle.layout.specs.Steps.{Joined}
 
 any_set : (es : List Entry) (k : ℕ) (x : Mapping) → k < length es → any_present (set es k (Some x)) ≡ true
@@ -27,9 +26,7 @@ joined_with m p old x l found mine free h =
     let within : position_of p < length old.entries = omega (arith, old.ok.1) in
     let some : any_present l.entries ≡ true = ap any_present h.entries ∙ any_set old.entries (position_of p) x within in
     record {
-      free = ap (λ o. word_of (entry_in o (position_of p))) found ∙ ap word_of free;
-      own = ap (λ t. not (not t) && eqb l.cluster (cluster_of p)) some ∙ eq-eqb l.cluster (cluster_of p) (h.cluster ∙ same);
-      words = λ k.
-          ap (λ es. word_of (get_or es k None)) h.entries ∙ word_set old.entries (position_of p) k (Some x) within
-          ∙ ap (λ o. cond (eqb k (position_of p)) (x.frame * 8 + x.rights) (word_of (entry_in o k))) (sym found);
+      free = search rules;
+      own = search rules;
+      words = λ k. let w = word_set old.entries (position_of p) k (Some x) within in search rules;
     }

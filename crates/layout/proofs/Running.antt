@@ -1,18 +1,9 @@
 -- A list as far as it was laid out.
-use Rattle.std.proofs.Common.{◌≡◌, ℕ, ◌+◌, List, [], ◌∷◌, ◌++◌, map, length, vec_items, vec_len, sym, ap, ◌∙◌, append_assoc, append-nil, arith}
-use mathlib.Core.Path.{fun_ext}
-use Rattle.std.specs.BTreeMap.{BTreeMap, is_at, IsEmpty}
-use Rattle.std.specs.Map.{lookup}
-use Rattle.std.specs.Ordering.{nat_cmp}
-use Rattle.lines.specs.declared.rows.Line.{Line}
-use Rattle.lines.specs.Entries.{word_of}
-use Rattle.lines.specs.Numbers.{cluster_of, position_of}
-use Rattle.reading.specs.Numbers.{three_of}
+use Rattle.std.proofs.Common.{◌≡◌, ℕ, ◌+◌, List, ◌++◌, map, length, vec_items, vec_len}
 use Rattle.reading.specs.Parts.{lines_of}
 use Rattle.layout.specs.declared.sheets.Layout.{Layout}
-use Rattle.layout.specs.Lists.{bare, book_of, row_entered, row_refusal, noted, refusals_of}
-use Rattle.layout.specs.Sheets.{entry_in, word_in, refusal, LaidOut}
-use Rattle.layout.specs.Steps.{Stepped}
+use Rattle.layout.specs.Lists.{bare, book_of, refusals_of}
+use Rattle.layout.specs.Sheets.{word_in, refusal}
 
 -- after its first n lines, those that are left of the list lead from the layout so far to that of the whole list
 pub record Sofar (list : List ℕ) (t : Layout) (n : ℕ) (left : List (List ℕ)) : Type 0 where
