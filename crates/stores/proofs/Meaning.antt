@@ -15,14 +15,14 @@ use Rattle.stores.specs.Views.{out_of, view}
 use Rattle.stores.proofs.Refusing.{row_accepted}
 use Rattle.stores.proofs.Viewing.{view_given}
 
-free_below : (n : ℕ) (m : Marks) (c : ℕ) → Free (out_of n m) c → c < n
-free_below n m c f = let e = length-take n m.out in omega (arith, f.0)
+free_below : (m : Marks) (c : ℕ) → Free (out_of m) c → c < m.count
+free_below m c f = let e = length-take m.count m.out in omega (arith, f.0)
 
-out_below : (n : ℕ) (m : Marks) (c : ℕ) → is_out (out_of n m) c ≡ true → c < n
-out_below n m c e = ⊎_elim
-    (λ (h : c < n). h)
-    (λ (h : n ≤ c). absurd (both_ways (is_out (out_of n m) c) (get_or_past (out_of n m) c false (let l = length-take n m.out in omega arith)) e))
-    (cases_lt c n)
+out_below : (m : Marks) (c : ℕ) → is_out (out_of m) c ≡ true → c < m.count
+out_below m c e = ⊎_elim
+    (λ (h : c < m.count). h)
+    (λ (h : m.count ≤ c). absurd (both_ways (is_out (out_of m) c) (get_or_past (out_of m) c false (let l = length-take m.count m.out in omega arith)) e))
+    (cases_lt c m.count)
 
 take_set_at : {X : Type 0} (n : ℕ) (xs : List X) (c : ℕ) (x : X) → take n (set xs c x) ≡ set (take n xs) c x
 take_set_at zero xs c x = refl
@@ -30,61 +30,63 @@ take_set_at (suc n) [] c x = refl
 take_set_at (suc n) (y ∷ xs) zero x = refl
 take_set_at (suc n) (y ∷ xs) (suc c) x = ap (λ r. y ∷ r) (take_set_at n xs c x)
 
-pub out_taken : (n : ℕ) (m : Marks) (c : ℕ) → out_of n (marks_taken m c) ≡ set (out_of n m) c true
-out_taken n m c = take_set_at n m.out c true
+pub out_taken : (m : Marks) (c : ℕ) → out_of (marks_taken m c) ≡ set (out_of m) c true
+out_taken m c = take_set_at m.count m.out c true
 
-pub out_new : (n : ℕ) (m : Marks) → m.out ≡ replicate 256 false → n ≤ 256 → out_of n m ≡ replicate n false
-out_new n m new few = ap (take n) new ∙ take-replicate n 256 false few
+pub out_new : (m : Marks) (n : ℕ) → m.out ≡ replicate 256 false → m.count ≡ n → out_of m ≡ replicate n false
+out_new m n new count =
+    let few = m.few in
+    ap₂ take count new ∙ take-replicate n 256 false (omega arith)
 
--- memory of some kind, that has room for so many chunks and shows a line at each place
-module _ {X : Type 0} (rows : ℕ) (count : X → ℕ) (at : X → ℕ → Line) where
+-- memory of some kind, that shows a line at each place
+module _ {X : Type 0} (rows : ℕ) (at : X → ℕ → Line) where
   abbrev seen : Marks → X → Store
-  seen m mem = view rows (out_of (count mem) m) (at mem)
+  seen m mem = view rows (out_of m) (at mem)
 
   pub take_means :
       (cleared : X → ℕ → X) (m m' : Marks) (mem mem' : X) (r : Result ℕ StoreFault) →
-      ((c : ℕ) → c < count mem → seen (marks_taken m c) (cleared mem c) ≡ taken (seen m mem) c) →
-      MarksTook (out_of (count mem) m) m r m' →
+      ((c : ℕ) → c < m.count → seen (marks_taken m c) (cleared mem c) ≡ taken (seen m mem) c) →
+      MarksTook (out_of m) m r m' →
       MatchResult r (λ c. mem' ≡ cleared mem c) (λ _. mem' ≡ mem) →
-      MatchResult r (λ c. Free (out_of (count mem) m) c × (seen m' mem' ≡ taken (seen m mem) c)) (λ _. seen m' mem' ≡ seen m mem)
-  take_means cleared m m' mem mem' (Ok c) meant marks memory = (marks.0, ap₂ seen marks.2 memory ∙ meant c (free_below (count mem) m c marks.0))
+      MatchResult r (λ c. Free (out_of m) c × (seen m' mem' ≡ taken (seen m mem) c)) (λ _. seen m' mem' ≡ seen m mem)
+  take_means cleared m m' mem mem' (Ok c) meant marks memory = (marks.0, ap₂ seen marks.2 memory ∙ meant c (free_below m c marks.0))
   take_means cleared m m' mem mem' (Err e) meant marks memory = ap₂ seen marks memory
 
   pub give_back_means :
       (m m' : Marks) (mem mem' : X) (c : ℕ) (b : Bool) → m' ≡ cond b (marks_given m c) m → mem' ≡ mem →
       seen m' mem' ≡ cond b (given_back (seen m mem) c) (seen m mem)
   give_back_means m m' mem mem' c true marks memory =
-      ap₂ seen marks memory ∙ ap (λ o. view rows o (at mem)) (take_set_at (count mem) m.out c false) ∙ view_given rows (out_of (count mem) m) (at mem) c
+      ap₂ seen marks memory ∙ ap (λ o. view rows o (at mem)) (take_set_at m.count m.out c false) ∙ view_given rows (out_of m) (at mem) c
   give_back_means m m' mem mem' c false marks memory = ap₂ seen marks memory
 
   pub write_means :
       {A : Type 0} (replaced : X) (m m' : Marks) (mem mem' : X) (c row : ℕ) (l : Line) (r : Result A StoreFault) →
-      (c < count mem → is_out (out_of (count mem) m) c ≡ true → row < rows → seen m replaced ≡ written (seen m mem) c row l) →
-      refusal r ≡ row_refusal rows (out_of (count mem) m) c row → m' ≡ m → mem' ≡ cond (is_ok r) replaced mem →
+      (c < m.count → is_out (out_of m) c ≡ true → row < rows → seen m replaced ≡ written (seen m mem) c row l) →
+      refusal r ≡ row_refusal rows (out_of m) c row → m' ≡ m → mem' ≡ cond (is_ok r) replaced mem →
       seen m' mem' ≡ cond (is_ok r) (written (seen m mem) c row l) (seen m mem)
   write_means replaced m m' mem mem' c row l (Ok x) meant said marks memory =
-      let met = row_accepted rows (out_of (count mem) m) c row (sym said) in
-      ap₂ seen marks memory ∙ meant (out_below (count mem) m c met.0) met.0 met.1
+      let met = row_accepted rows (out_of m) c row (sym said) in
+      ap₂ seen marks memory ∙ meant (out_below m c met.0) met.0 met.1
   write_means replaced m m' mem mem' c row l (Err e) meant said marks memory = ap₂ seen marks memory
 
   -- memory that no chunk has stays as it is
   pub take_beyond :
       {Y : Type 0} (beyond : X → Y) (cleared : X → ℕ → X) (m m' : Marks) (mem mem' : X) (r : Result ℕ StoreFault) →
-      ((c : ℕ) → c < count mem → beyond (cleared mem c) ≡ beyond mem) →
-      MarksTook (out_of (count mem) m) m r m' →
+      ((c : ℕ) → c < m.count → beyond (cleared mem c) ≡ beyond mem) →
+      MarksTook (out_of m) m r m' →
       MatchResult r (λ c. mem' ≡ cleared mem c) (λ _. mem' ≡ mem) →
       beyond mem' ≡ beyond mem
-  take_beyond beyond cleared m m' mem mem' (Ok c) stays marks memory = ap beyond memory ∙ stays c (free_below (count mem) m c marks.0)
+  take_beyond beyond cleared m m' mem mem' (Ok c) stays marks memory = ap beyond memory ∙ stays c (free_below m c marks.0)
   take_beyond beyond cleared m m' mem mem' (Err e) stays marks memory = ap beyond memory
 
   pub write_beyond :
       {A Y : Type 0} (beyond : X → Y) (replaced : X) (m : Marks) (mem mem' : X) (c row : ℕ) (r : Result A StoreFault) →
-      (c < count mem → row < rows → beyond replaced ≡ beyond mem) →
-      refusal r ≡ row_refusal rows (out_of (count mem) m) c row → mem' ≡ cond (is_ok r) replaced mem →
+      (c < m.count → row < rows → beyond replaced ≡ beyond mem) →
+      refusal r ≡ row_refusal rows (out_of m) c row → mem' ≡ cond (is_ok r) replaced mem →
       beyond mem' ≡ beyond mem
   write_beyond beyond replaced m mem mem' c row (Ok x) stays said memory =
-      let met = row_accepted rows (out_of (count mem) m) c row (sym said) in
-      ap beyond memory ∙ stays (out_below (count mem) m c met.0) met.1
+      let met = row_accepted rows (out_of m) c row (sym said) in
+      ap beyond memory ∙ stays (out_below m c met.0) met.1
   write_beyond beyond replaced m mem mem' c row (Err e) stays said memory = ap beyond memory
 
 -- what lies past a part that was written over

@@ -2,9 +2,10 @@
 #![tactic(auto)]
 
 pub mod faults;
+mod free;
 pub mod marks;
 pub mod store;
 
 pub use faults::StoreFault;
 pub use marks::{MOST_CHUNKS, Marks};
-pub use store::ChunkStore;
+pub use store::{ChunkStore, RowIndex};

@@ -1,100 +1,68 @@
 // Which chunks are out, and from where on a free one is looked for.
 ghost use Rattle.std.specs.Prelude.{◌≡◌, ◌<◌, ◌≤◌, min, true, false, length, replicate, is_ok, IfOk, if◌then◌else◌, slice_index_or};
-ghost use Rattle.stores.specs.Chunks.{free_count};
-ghost use Rattle.stores.specs.Choices.{free_from, chosen as choice, MarksTook, marks_taken, marks_given};
-ghost use Rattle.stores.specs.Refusals.{refusal, spare_refusal, take_refusal, give_back_refusal, row_refusal};
-ghost use Rattle.stores.specs.Views.{out_of};
 
 use crate::faults::StoreFault;
+use crate::free::{chosen, count_free};
+use crate::store::RowIndex;
 
 // how many chunks a store on handed-over memory has at most
 pub const MOST_CHUNKS: usize = 256;
 
-// One for each chunk, true where it is out, and the mark from which on a free one is looked for.
-// How many chunks there are is told at each call, for it follows from the memory.
 #[derive(Drop)]
 pub struct Marks {
+    // how many chunks there are
+    count: usize,
+    // one for each chunk, true where it is out
     out: [bool; MOST_CHUNKS],
+    // from which chunk on a free one is looked for
     mark: usize,
-}
-
-fn first_free(out: &[bool], from: usize) -> usize
-    ensures is { result ≡ free_from out.now from }
-    ensures within { from ≤ length out.now → result ≤ length out.now }
-    ensures free { result < length out.now → slice_index_or out.now result false ≡ false }
-{
-    let mut i = from;
-    while i < out.len() && out[i] {
-        i += 1;
-    }
-    i
-}
-
-fn chosen(out: &[bool], mark: usize) -> usize
-    ensures is { result ≡ choice out.now mark }
-    ensures within { result ≤ length out.now }
-    ensures free { result < length out.now → slice_index_or out.now result false ≡ false }
-    ensures none { result ≡ length out.now → free_count out.now ≡ 0 }
-{
-    let high = first_free(out, mark);
-    if high < out.len() {
-        high
-    } else {
-        first_free(out, 0)
-    }
-}
-
-fn count_free(out: &[bool]) -> usize
-    ensures is { result ≡ free_count out.now }
-    ensures within { result ≤ length out.now }
-{
-    let mut n = 0;
-    for b in out {
-        if !*b {
-            n += 1;
-        }
-    }
-    n
+    ghost few: { count ≤ 256 },
 }
 
 impl Marks {
-    // all chunks are free, and the mark stands at 0
-    pub fn new() -> Marks
+    ghost use Rattle.stores.specs.Chunks.{free_count};
+    ghost use Rattle.stores.specs.Choices.{MarksTook, marks_taken, marks_given};
+    ghost use Rattle.stores.specs.Refusals.{refusal, spare_refusal, take_refusal, give_back_refusal, row_refusal};
+    ghost use Rattle.stores.specs.Views.{out_of};
+
+    // Marks of so many chunks, but at most 256: all are free, and the mark stands at 0.
+    pub fn new(count: usize) -> Marks
+        ensures count { result.count ≡ min 256 count }
         ensures out { result.out ≡ replicate 256 false }
         ensures mark { result.mark ≡ 0 }
     {
         Marks {
+            count: count.min(MOST_CHUNKS),
             out: [false; MOST_CHUNKS],
             mark: 0,
         }
     }
 
-    // the marks of the first n chunks
-    fn first(&self, n: usize) -> &[bool]
-        ensures is { result.now ≡ out_of n self.now }
-        ensures size { length result.now ≡ min 256 n }
+    // the marks of the chunks that there are
+    fn chunks(&self) -> &[bool]
+        ensures is { result.now ≡ out_of self.now }
+        ensures size { length result.now ≡ self.now.count }
     {
-        &self.out[0..n.min(MOST_CHUNKS)]
+        &self.out[0..self.count]
     }
 
-    // n, but at most 256
-    pub fn count(&self, n: usize) -> usize
-        ensures value { result ≡ length (out_of n self.now) }
-        ensures size { result ≡ min 256 n }
+    pub fn count(&self) -> usize
+        ensures value { result ≡ length (out_of self.now) }
+        ensures size { result ≡ self.now.count }
     {
-        self.first(n).len()
+        self.count
     }
 
-    pub fn free(&self, n: usize) -> usize
-        ensures { result ≡ free_count (out_of n self.now) }
+    pub fn free(&self) -> usize
+        ensures { result ≡ free_count (out_of self.now) }
     {
-        count_free(self.first(n))
+        count_free(self.chunks())
     }
 
-    pub fn spare(&self, n: usize, k: usize) -> Result<(), StoreFault>
-        ensures { refusal result ≡ spare_refusal (out_of n self.now) k }
+    pub fn spare(&self, k: usize) -> Result<(), StoreFault>
+        ensures { refusal result ≡ spare_refusal (out_of self.now) k }
     {
-        let free = self.free(n);
+        let free = self.free();
         if k <= free {
             Ok(())
         } else {
@@ -111,33 +79,30 @@ impl Marks {
     }
 
     // Takes the first free chunk at or above the mark, going round to 0.
-    pub fn take(&mut self, n: usize) -> Result<usize, StoreFault>
-        ensures said { refusal result ≡ take_refusal (out_of n self.old) }
-        ensures after { MarksTook (out_of n self.old) self.old result self.new }
-        ensures below { IfOk result (λ c. c < n) }
+    pub fn take(&mut self) -> Result<usize, StoreFault>
+        ensures said { refusal result ≡ take_refusal (out_of self.old) }
+        ensures after { MarksTook (out_of self.old) self.old result self.new }
+        ensures below { IfOk result (λ c. c < self.old.count) }
     {
-        let out = self.first(n);
-        let c = chosen(out, self.mark);
-        if c >= out.len() {
+        let Some(chunk) = chosen(self.chunks(), self.mark) else {
             return Err(StoreFault::NoneFree);
-        }
-        self.mark_out(c);
-        Ok(c)
+        };
+        self.mark_out(chunk);
+        Ok(chunk)
     }
 
-    fn is_out(&self, n: usize, chunk: usize) -> bool
-        ensures is { result ≡ slice_index_or (out_of n self.now) chunk false }
-        ensures within { result ≡ true → (chunk < n) × (chunk < 256) }
+    fn is_out(&self, chunk: usize) -> bool
+        ensures is { result ≡ slice_index_or (out_of self.now) chunk false }
+        ensures within { result ≡ true → (chunk < self.now.count) × (chunk < 256) }
     {
-        let out = self.first(n);
-        chunk < out.len() && out[chunk]
+        self.chunks().get(chunk).copied().unwrap_or(false)
     }
 
-    pub fn give_back(&mut self, n: usize, chunk: usize) -> Result<(), StoreFault>
-        ensures said { refusal result ≡ give_back_refusal (out_of n self.old) chunk }
+    pub fn give_back(&mut self, chunk: usize) -> Result<(), StoreFault>
+        ensures said { refusal result ≡ give_back_refusal (out_of self.old) chunk }
         ensures after { self.new ≡ (if is_ok result then marks_given self.old chunk else self.old) }
     {
-        if self.is_out(n, chunk) {
+        if self.is_out(chunk) {
             self.out[chunk] = false;
             Ok(())
         } else {
@@ -146,14 +111,14 @@ impl Marks {
     }
 
     // Agrees where a row of a chunk can be reached.
-    pub fn reach(&self, n: usize, rows: usize, chunk: usize, row: usize) -> Result<(), StoreFault>
-        ensures said { refusal result ≡ row_refusal rows (out_of n self.now) chunk row }
-        ensures within { is_ok result ≡ true → (chunk < n) × (chunk < 256) × (row < rows) }
+    pub fn reach(&self, rows: usize, at: RowIndex) -> Result<(), StoreFault>
+        ensures said { refusal result ≡ row_refusal rows (out_of self.now) at.chunk at.row }
+        ensures within { is_ok result ≡ true → (at.chunk < self.now.count) × (at.chunk < 256) × (at.row < rows) }
     {
-        if !self.is_out(n, chunk) {
+        if !self.is_out(at.chunk) {
             return Err(StoreFault::NotOut);
         }
-        if row >= rows {
+        if at.row >= rows {
             return Err(StoreFault::NoSuchRow);
         }
         Ok(())

@@ -7,6 +7,13 @@ ghost use Rattle.stores.specs.Stores.{Store, Bounded, RowsPerChunk, taken, given
 use crate::faults::StoreFault;
 use lines::Line;
 
+// A row of a chunk, by their numbers.
+#[derive(Clone, Copy, PartialEq, Eq, Debug)]
+pub struct RowIndex {
+    pub chunk: usize,
+    pub row: usize,
+}
+
 // A chunk is a run of memory for so many rows, each of which holds one line. It is free, or out: handed to whoever took it.
 // Every call answers on any input. A refused call changes nothing, of the store itself and not only of what it holds.
 pub trait ChunkStore {
@@ -52,13 +59,13 @@ pub trait ChunkStore {
         ensures refused { is_ok result ≡ false → self.new ≡ self.old };
 
     // Puts the line in a row of a chunk into a place that the caller lends.
-    fn read(&self, chunk: usize, row: usize, into: &mut Line) -> Result<(), StoreFault>
-        ensures said { refusal result ≡ row_refusal rows (model self.now).out chunk row }
-        ensures after { into.new ≡ (if is_ok result then (model self.now).line chunk row else into.old) };
+    fn read(&self, at: RowIndex, into: &mut Line) -> Result<(), StoreFault>
+        ensures said { refusal result ≡ row_refusal rows (model self.now).out at.chunk at.row }
+        ensures after { into.new ≡ (if is_ok result then (model self.now).line at.chunk at.row else into.old) };
 
     // Replaces the line in a row of a chunk.
-    fn write(&mut self, chunk: usize, row: usize, line: &Line) -> Result<(), StoreFault>
-        ensures said { refusal result ≡ row_refusal rows (model self.old).out chunk row }
-        ensures after { model self.new ≡ (if is_ok result then written (model self.old) chunk row line.now else model self.old) }
+    fn write(&mut self, at: RowIndex, line: &Line) -> Result<(), StoreFault>
+        ensures said { refusal result ≡ row_refusal rows (model self.old).out at.chunk at.row }
+        ensures after { model self.new ≡ (if is_ok result then written (model self.old) at.chunk at.row line.now else model self.old) }
         ensures refused { is_ok result ≡ false → self.new ≡ self.old };
 }
