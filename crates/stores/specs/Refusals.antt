@@ -1,5 +1,5 @@
 -- Each refusal of a store by its number and values, and when it is given.
-use Rattle.std.specs.Prelude.{ℕ, Bool, cond, List, [], ◌∷◌, Ok, Err, Result, ◌==◌, nat_le, nat_lt}
+use Rattle.std.specs.Prelude.{ℕ, Bool, cond, List, [], ◌∷◌, Ok, Err, Result, ◌==◌, nat_le, nat_lt, ◌++◌, codes, decimal}
 use Rattle.stores.specs.Chunks.{is_out, free_count}
 use Rattle.stores.specs.declared.faults.StoreFault.{StoreFault}
 use Rattle.stores.specs.declared.faults.StoreFault.TheVariants.{TooFewFree, NoneFree, NotOut, NoSuchRow}
@@ -10,6 +10,17 @@ told (TooFewFree needed free) = 14 ∷ needed ∷ free ∷ []
 told NoneFree = 16 ∷ []
 told NotOut = 17 ∷ []
 told NoSuchRow = 18 ∷ []
+
+-- the text of the values: how many chunks were needed and how many are free, where a refusal carries them
+abbrev pub values_text : List ℕ → List ℕ
+values_text [] = []
+values_text (needed ∷ []) = []
+values_text (needed ∷ free ∷ more) = codes ", needed " ++ (decimal needed ++ (codes ", free " ++ decimal free))
+
+-- the text of a refusal, by its number and the values that it carries
+abbrev pub refused_text : List ℕ → List ℕ
+refused_text [] = []
+refused_text (number ∷ values) = codes "refused " ++ (decimal number ++ values_text values)
 
 -- what a call refuses with: nothing where it is accepted
 abbrev pub refusal : {A : Type 0} → Result A StoreFault → List ℕ

@@ -1,6 +1,9 @@
 // Why a chunk store refuses.
 ghost use Rattle.std.specs.Prelude.{◌≡◌, slice_index};
-ghost use Rattle.stores.specs.Refusals.{told};
+ghost use Rattle.std.specs.Prelude.{Some};
+ghost use Rattle.stores.specs.Refusals.{told, refused_text};
+
+use std::fmt;
 
 #[derive(Clone, Copy, PartialEq, Eq, Debug)]
 pub enum StoreFault {
@@ -22,6 +25,20 @@ impl StoreFault {
             StoreFault::NoneFree => 16,
             StoreFault::NotOut => 17,
             StoreFault::NoSuchRow => 18,
+        }
+    }
+}
+
+impl fmt::Display for StoreFault {
+    ghost output = { λ fault. Some (refused_text (told fault)) };
+
+    fn fmt<W: fmt::Write>(&self, f: &mut fmt::Formatter<W>) -> fmt::Result {
+        let number = self.number();
+        match self {
+            StoreFault::TooFewFree { needed, free } => {
+                write!(f, "refused {number}, needed {needed}, free {free}")
+            }
+            _ => write!(f, "refused {number}"),
         }
     }
 }
