@@ -1,0 +1,5 @@
+-- The lemmas of `lent_store`.
+pub mod Changing
+pub mod Pasting
+pub mod Rooms
+pub mod Whole

@@ -1,0 +1,3 @@
+-- The definitions that the contracts cite of `lent_store`.
+pub mod Memory
+pub mod Lent

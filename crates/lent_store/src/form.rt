@@ -1,0 +1,54 @@
+// How a line stands in a row of memory.
+ghost use Rattle.std.specs.Prelude.{◌≡◌, ℕ, ◌*◌, ◌<◌, ◌≤◌, List, length, replicate, if◌then◌else◌, ◌==◌};
+ghost use Rattle.lines.specs.declared.rows.Line.{Line as TheLine};
+ghost use Rattle.lines.specs.Lines.{empty_line};
+ghost use Rattle.stores.specs.Stores.{RowsPerChunk};
+
+use lines::Line;
+
+// A row is so many cells of memory, and a chunk so many rows.
+pub trait RowForm {
+    // what memory is made of
+    type Cell: Copy;
+
+    // how many cells a row has
+    const CELLS: usize;
+
+    // how many rows a chunk has
+    const ROWS: usize;
+
+    ghost CELLS: { ℕ };
+
+    ghost ROWS: { ℕ };
+
+    ghost rows_power: { RowsPerChunk ROWS };
+
+    // the cell that clearing leaves
+    ghost blank: { Self.Cell };
+
+    // the cells of a line
+    ghost row_of: { TheLine → List Self.Cell };
+
+    // the line that cells stand for, the empty line where they are those of none
+    ghost line_of: { List Self.Cell → TheLine };
+
+    fn line_of(row: &[Self::Cell]) -> Line
+        ensures { result ≡ line_of row.now };
+
+    // Puts the line in a row; cells that are not a row stay as they are.
+    fn put(row: &mut [Self::Cell], line: &Line)
+        ensures { row.new ≡ (if length row.old == CELLS then row_of line.now else row.old) };
+
+    fn clear(cells: &mut [Self::Cell])
+        ensures { cells.new ≡ replicate (length cells.old) blank };
+
+    ghost some: { 0 < ROWS * CELLS };
+
+    ghost few: { ROWS * CELLS ≤ 8192 };
+
+    ghost row_size: { (l : TheLine) → length (row_of l) ≡ CELLS };
+
+    ghost line_back: { (l : TheLine) → line_of (row_of l) ≡ l };
+
+    ghost blank_row: { line_of (replicate CELLS blank) ≡ empty_line };
+}
