@@ -1,2 +1,3 @@
 -- The lemmas of `packed_store`.
-pub mod Rows
+pub mod Found
+pub mod Zeros

@@ -1,7 +1,8 @@
 // A chunk store on handed-over bytes, 64 to a line and 128 rows to a chunk.
 #![tactic(auto)]
 
-mod packs;
-pub mod store;
+mod laws;
+pub mod packs;
 
-pub use store::PackedStore;
+pub use laws::packed_laws_hold;
+pub use packs::{PackedStore, Packs};

@@ -1,41 +1,63 @@
-// Packed lines in a row of the bytes, and a chunk of them.
-ghost use Rattle.std.specs.Prelude.{◌≡◌, ◌+◌, ◌*◌, ◌≤◌, length};
-ghost use Rattle.packed_store.specs.Packed.{line_at, chunk_cleared, line_replaced};
+// Packed lines as rows of memory, and the store on them.
+ghost use Rattle.std.specs.Prelude.{◌≡◌, replicate};
+ghost use Rattle.std.proofs.Common.{rules};
+ghost use Rattle.lines.specs.Decoded.{packed_line};
+ghost use Rattle.lines.specs.Lines.{empty_line};
+ghost use Rattle.lines.specs.Packs.{packed};
+ghost use Rattle.lines.proofs.Bytes.{length-packed};
+ghost use Rattle.lines.proofs.Decoding.{packed_back, packed_empty, packed_line-packed};
+ghost use Rattle.packed_store.specs.Packed.{line_bytes, rows_per_chunk, rows_power};
 
+use lent_store::{LentStore, RowForm};
 use lines::Line;
 
-pub(crate) const LINE_BYTES: usize = 64;
+// A row is a packed line of 64 bytes.
+#[derive(Clone, Copy, Debug)]
+pub struct Packs;
 
-pub(crate) const ROWS_PER_CHUNK: usize = 128;
+impl RowForm for Packs {
+    type Cell = u8;
 
-pub(crate) const CHUNK_BYTES: usize = ROWS_PER_CHUNK * LINE_BYTES;
+    const CELLS: usize = 64;
 
-// the i-th line of the bytes, the empty line where no line packs to them
-pub(crate) fn line_at(mem: &[u8], i: usize) -> Line
-    requires { i * 64 + 64 ≤ length mem.now }
-    ensures { result ≡ line_at mem.now i }
-{
-    let from = i * LINE_BYTES;
-    match Line::unpack(&mem[from..from + LINE_BYTES]) {
-        Ok(line) => line,
-        Err(_) => Line::empty(),
+    const ROWS: usize = 128;
+
+    ghost CELLS = { line_bytes };
+
+    ghost ROWS = { rows_per_chunk };
+
+    ghost rows_power = { rows_power };
+
+    ghost blank = { 0 };
+
+    ghost row_of = { packed };
+
+    ghost line_of = { packed_line };
+
+    ghost some = { Prim.search rules };
+
+    ghost few = { Prim.search rules };
+
+    ghost row_size = { length-packed };
+
+    ghost line_back = { packed_back };
+
+    ghost blank_row = { packed_line-packed empty_line (replicate 64 0) packed_empty };
+
+    fn line_of(row: &[u8]) -> Line {
+        Line::unpack(row).unwrap_or(Line::empty())
+    }
+
+    fn put(row: &mut [u8], line: &Line) {
+        if row.len() == Self::CELLS {
+            row.copy_from_slice(&line.pack());
+        }
+    }
+
+    fn clear(cells: &mut [u8]) {
+        cells.fill(0);
     }
 }
 
-// Packs a line into the i-th place for one.
-pub(crate) fn put_line(mem: &mut [u8], i: usize, line: &Line)
-    requires { i * 64 + 64 ≤ length mem.old }
-    ensures { mem.new ≡ line_replaced mem.old i line.now }
-{
-    let from = i * LINE_BYTES;
-    mem[from..from + LINE_BYTES].copy_from_slice(&line.pack());
-}
-
-// Makes every row of a chunk the packed empty line.
-pub(crate) fn clear_chunk(mem: &mut [u8], chunk: usize)
-    requires { chunk * 8192 + 8192 ≤ length mem.old }
-    ensures { mem.new ≡ chunk_cleared mem.old chunk }
-{
-    let from = chunk * CHUNK_BYTES;
-    mem[from..from + CHUNK_BYTES].copy_from_slice(&[0; CHUNK_BYTES]);
-}
+// The bytes are lent for the store's life.
+pub type PackedStore<'a> = LentStore<'a, Packs>;

@@ -1,3 +1,3 @@
 -- The lemmas of `record_store`.
-pub mod Nine
-pub mod Rows
+pub mod Found
+pub mod Single

@@ -1,12 +1,17 @@
--- What a record store holds, and what its calls leave in the handed-over records.
-use Rattle.std.specs.Prelude.{ℕ, ◌+◌, ◌*◌, List, [], length, drop, replicate, slice_index_or, slice_set, refl}
+-- Records as rows of memory, what a store on them holds, and what its calls leave in them.
+use Rattle.std.specs.Prelude.{◌≡◌, ℕ, ◌+◌, ◌*◌, ◌<◌, List, [], ◌∷◌, replicate, slice_index_or, slice_set, refl}
 use Rattle.std.proofs.Common.{arith}
 use Rattle.std.proofs.Math.Seq.{paste}
 use Rattle.lines.specs.declared.rows.Line.{Line}
 use Rattle.lines.specs.Decoded.{record_of, recorded_line}
 use Rattle.stores.specs.Stores.{RowsPerChunk, Store}
-use Rattle.stores.specs.Views.{chunks_in, out_of, view}
-use Rattle.record_store.specs.declared.store.RecordStore.{RecordStore}
+use Rattle.stores.specs.Views.{out_of, view}
+use Rattle.stores.specs.declared.marks.Marks.{Marks}
+use Rattle.lent_store.specs.Memory as memory
+
+-- how many records a row has
+abbrev pub records_per_row : ℕ
+records_per_row = 1
 
 -- how many rows, and so records, a chunk has
 abbrev pub rows_per_chunk : ℕ
@@ -16,26 +21,44 @@ rows_per_chunk = 4
 pub rows_power : RowsPerChunk rows_per_chunk
 rows_power = (2, omega arith, refl)
 
+-- the cell that clearing leaves: the record of the empty line
+abbrev pub blank_record : List ℕ
+blank_record = replicate 9 0
+
+-- a line as a row
+abbrev pub row_of : Line → List (List ℕ)
+row_of l = record_of l ∷ []
+
+-- the line of a row
+abbrev pub row_line : List (List ℕ) → Line
+row_line row = recorded_line (slice_index_or row 0 [])
+
 -- how many chunks the handed-over records have room for
 abbrev pub chunk_count : List (List ℕ) → ℕ
-chunk_count mem = chunks_in rows_per_chunk (length mem)
+chunk_count mem = memory.chunk_count rows_per_chunk records_per_row mem
 
 -- the records beyond those chunks
 abbrev pub beyond_chunks : List (List ℕ) → List (List ℕ)
-beyond_chunks mem = drop (chunk_count mem * rows_per_chunk) mem
+beyond_chunks mem = memory.beyond_chunks rows_per_chunk records_per_row mem
 
 -- the line of record i
 abbrev pub line_at : List (List ℕ) → ℕ → Line
 line_at mem i = recorded_line (slice_index_or mem i [])
 
--- what the store holds
-abbrev pub shown : RecordStore → Store
-shown s = view rows_per_chunk (out_of (chunk_count s.mem.now) s.marks) (line_at s.mem.now)
+-- what a store with these marks holds
+abbrev pub shown : Marks → List (List ℕ) → Store
+shown m mem = view rows_per_chunk (out_of m) (line_at mem)
 
 -- the records with the four of a chunk all zeros, which is the empty line
 abbrev pub chunk_cleared : List (List ℕ) → ℕ → List (List ℕ)
-chunk_cleared mem c = paste mem (c * rows_per_chunk) (replicate rows_per_chunk (replicate 9 0)) rows_per_chunk
+chunk_cleared mem c = paste mem (c * rows_per_chunk) (replicate rows_per_chunk blank_record) rows_per_chunk
 
 -- the records with that of one row replaced
 abbrev pub row_replaced : List (List ℕ) → ℕ → ℕ → Line → List (List ℕ)
 row_replaced mem c r l = slice_set mem (c * rows_per_chunk + r) (record_of l)
+
+-- what a store on lent memory holds in records, and leaves in them
+pub record RecordLaws : Type 0 where
+  pub shows : (m : Marks) (mem : List (List ℕ)) → view rows_per_chunk (out_of m) (memory.line_at records_per_row row_line mem) ≡ shown m mem
+  pub cleared : (mem : List (List ℕ)) (c : ℕ) → memory.chunk_cleared rows_per_chunk records_per_row blank_record mem c ≡ chunk_cleared mem c
+  pub replaced : (mem : List (List ℕ)) (c r : ℕ) (l : Line) → c < chunk_count mem → r < rows_per_chunk → memory.row_replaced rows_per_chunk records_per_row mem c r (row_of l) ≡ row_replaced mem c r l

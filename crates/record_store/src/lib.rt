@@ -1,7 +1,8 @@
 // A chunk store on handed-over records of nine numbers, four rows to a chunk.
 #![tactic(auto)]
 
-mod records;
-pub mod store;
+mod laws;
+pub mod records;
 
-pub use store::RecordStore;
+pub use laws::record_laws_hold;
+pub use records::{RecordStore, Records};

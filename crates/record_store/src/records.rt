@@ -1,44 +1,82 @@
-// Records: a line as one, the line that one stands for, and a chunk of them.
-ghost use Rattle.std.specs.Prelude.{◌≡◌, ◌+◌, ◌*◌, ◌≤◌, length};
+// Records as rows of memory, and the store on them.
+ghost use Rattle.std.specs.Prelude.{◌≡◌, refl};
+ghost use Rattle.std.proofs.Common.{rules};
 ghost use Rattle.lines.specs.Decoded.{record_of, recorded_line};
-ghost use Rattle.record_store.specs.Records.{chunk_cleared};
+ghost use Rattle.lines.specs.Lines.{empty_line};
+ghost use Rattle.lines.proofs.Decoding.{recorded_back};
+ghost use Rattle.record_store.specs.Records.{blank_record, records_per_row, rows_per_chunk, rows_power, row_line, row_of};
 
-use lines::{Entry, Line};
+use lent_store::{LentStore, RowForm};
+use lines::Line;
 
-pub(crate) const ROWS_PER_CHUNK: usize = 4;
-
-pub(crate) fn record_of(line: &Line) -> [u64; 9]
+// A record is a line's cluster, then the words of its eight entries.
+fn record_of(line: &Line) -> [u64; 9]
     ensures { result ≡ record_of line.now }
 {
-    let mut numbers = [line.cluster; 9];
-    for k in 0..8 {
-        numbers[k + 1] = line.entries[k].word();
-    }
-    numbers
+    let mut record = [line.cluster; 9];
+    record[1..].copy_from_slice(&line.words());
+    record
 }
 
 // the empty line where the record is that of no line
-pub(crate) fn line_of(numbers: &[u64; 9]) -> Line
+fn recorded_line(numbers: &[u64; 9]) -> Line
     ensures { result ≡ recorded_line numbers.now }
 {
-    let mut entries = [Entry::Absent; 8];
-    for k in 0..8 {
-        let Some(entry) = Entry::from_word(numbers[k + 1]) else {
-            return Line::empty();
-        };
-        entries[k] = entry;
+    let mut words = [0; 8];
+    words.copy_from_slice(&numbers[1..]);
+    Line::from_words(numbers[0], words).unwrap_or(Line::empty())
+}
+
+// A row is one record.
+#[derive(Clone, Copy, Debug)]
+pub struct Records;
+
+impl RowForm for Records {
+    type Cell = [u64; 9];
+
+    const CELLS: usize = 1;
+
+    const ROWS: usize = 4;
+
+    ghost CELLS = { records_per_row };
+
+    ghost ROWS = { rows_per_chunk };
+
+    ghost rows_power = { rows_power };
+
+    ghost blank = { blank_record };
+
+    ghost row_of = { row_of };
+
+    ghost line_of = { row_line };
+
+    ghost some = { Prim.search rules };
+
+    ghost few = { Prim.search rules };
+
+    ghost row_size = { λ _. refl };
+
+    ghost line_back = { recorded_back };
+
+    ghost blank_row = { recorded_back empty_line };
+
+    fn line_of(row: &[[u64; 9]]) -> Line {
+        match row {
+            [record, ..] => recorded_line(record),
+            [] => Line::empty(),
+        }
     }
-    match Line::new(numbers[0], entries) {
-        Some(line) => line,
-        None => Line::empty(),
+
+    fn put(row: &mut [[u64; 9]], line: &Line) {
+        if let [record] = row {
+            *record = record_of(line);
+        }
+    }
+
+    fn clear(cells: &mut [[u64; 9]]) {
+        cells.fill([0; 9]);
     }
 }
 
-// Makes every record of a chunk that of the empty line.
-pub(crate) fn clear_chunk(mem: &mut [[u64; 9]], chunk: usize)
-    requires { chunk * 4 + 4 ≤ length mem.old }
-    ensures { mem.new ≡ chunk_cleared mem.old chunk }
-{
-    let from = chunk * ROWS_PER_CHUNK;
-    mem[from..from + ROWS_PER_CHUNK].copy_from_slice(&[[0; 9]; ROWS_PER_CHUNK]);
-}
+// The records are lent for the store's life.
+pub type RecordStore<'a> = LentStore<'a, Records>;

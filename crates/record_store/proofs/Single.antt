@@ -1,0 +1,20 @@
+-- Rows of one record.
+use Rattle.std.proofs.Common.{◌≡◌, ℕ, ◌+◌, ◌*◌, ◌<◌, List, [], ◌∷◌, length, get_or, set, replicate, sym, refl, ap, ◌∙◌, ap₂, arith}
+use Rattle.std.proofs.lemmas.List.Edits.{get_or-between, paste_more, paste_none}
+use Rattle.std.specs.List.{between}
+use lib.Seq.{paste}
+use Rattle.lent_store.specs.Memory.{blanks}
+
+-- the one record of a row
+pub row_record : (mem : List (List ℕ)) (i : ℕ) → get_or (between (i * 1) (i * 1 + 1) mem) 0 [] ≡ get_or mem i []
+row_record mem i = get_or-between mem (i * 1) (i * 1 + 1) 0 [] (omega arith) ∙ ap (λ k. get_or mem k []) (omega arith)
+
+-- one record written over is one record set
+pub row_set : (mem : List (List ℕ)) (i : ℕ) (x : List ℕ) → i < length mem → paste mem (i * 1) (x ∷ []) 1 ≡ set mem i x
+row_set mem i x h =
+    sym (paste_more mem (i * 1) (x ∷ []) 0 [] (omega arith) (omega arith))
+    ∙ ap₂ (λ d k. set d k x) (sym (paste_none mem (i * 1) (x ∷ []))) (omega arith)
+
+pub blanks_four : (x : List ℕ) → blanks x 4 ≡ replicate 4 x
+unfolding blanks
+blanks_four x = refl
