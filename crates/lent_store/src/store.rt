@@ -16,6 +16,8 @@ pub struct LentStore<'a, F: RowForm> {
 }
 
 impl<'a, F: RowForm> LentStore<'a, F> {
+    ghost use Rattle.stores.specs.Choices.{marks_given};
+    ghost use Rattle.stores.specs.Refusals.{refusal, give_back_refusal};
     ghost use Rattle.stores.specs.Stores.{all_free};
     ghost use Rattle.lent_store.specs.Memory.{chunk_count};
     ghost use Rattle.lent_store.specs.Lent.{shown};
@@ -29,6 +31,15 @@ impl<'a, F: RowForm> LentStore<'a, F> {
     {
         let marks = Marks::new(mem.len() / (F::ROWS * F::CELLS));
         LentStore { mem, marks }
+    }
+
+    // What giving back does to the marks; the memory stays as it is.
+    fn free_chunk(&mut self, chunk: usize) -> Result<(), StoreFault>
+        ensures said { refusal result ≡ give_back_refusal (shown self.old).out chunk }
+        ensures marks { self.new.marks ≡ (if is_ok result then marks_given self.old.marks chunk else self.old.marks) }
+        ensures memory { self.new.mem ≡ self.old.mem }
+    {
+        self.marks.give_back(chunk)
     }
 }
 
@@ -99,7 +110,7 @@ impl<'a, F: RowForm> ChunkStore for LentStore<'a, F> {
         ensures refused { is_ok result ≡ false → self.new ≡ self.old }
         ensures named { self.new.mem.ghost_name ≡ self.old.mem.ghost_name }
     {
-        self.marks.give_back(chunk)
+        self.free_chunk(chunk)
     }
 
     fn read(&self, at: RowIndex, into: &mut Line) -> Result<(), StoreFault> {

@@ -3,18 +3,29 @@ use Rattle.std.proofs.Common.{◌≡◌, ℕ, ◌+◌, ◌*◌, ◌<◌, List, [
 use Rattle.std.proofs.lemmas.List.Edits.{get_or-between, paste_more, paste_none}
 use Rattle.std.specs.List.{between}
 use lib.Seq.{paste}
+use mathlib.Core.Path.{fun_ext}
+use Rattle.lines.specs.Decoded.{record_of, recorded_line}
+use Rattle.stores.specs.Views.{out_of, view}
 use Rattle.lent_store.specs.Memory.{blanks}
+use Rattle.record_store.specs.Records.{RecordLaws, blank_record, rows_per_chunk}
 
 -- the one record of a row
-pub row_record : (mem : List (List ℕ)) (i : ℕ) → get_or (between (i * 1) (i * 1 + 1) mem) 0 [] ≡ get_or mem i []
+row_record : (mem : List (List ℕ)) (i : ℕ) → get_or (between (i * 1) (i * 1 + 1) mem) 0 [] ≡ get_or mem i []
 row_record mem i = get_or-between mem (i * 1) (i * 1 + 1) 0 [] (omega arith) ∙ ap (λ k. get_or mem k []) (omega arith)
 
 -- one record written over is one record set
-pub row_set : (mem : List (List ℕ)) (i : ℕ) (x : List ℕ) → i < length mem → paste mem (i * 1) (x ∷ []) 1 ≡ set mem i x
+row_set : (mem : List (List ℕ)) (i : ℕ) (x : List ℕ) → i < length mem → paste mem (i * 1) (x ∷ []) 1 ≡ set mem i x
 row_set mem i x h =
     sym (paste_more mem (i * 1) (x ∷ []) 0 [] (omega arith) (omega arith))
     ∙ ap₂ (λ d k. set d k x) (sym (paste_none mem (i * 1) (x ∷ []))) (omega arith)
 
-pub blanks_four : (x : List ℕ) → blanks x 4 ≡ replicate 4 x
+blanks_four : (x : List ℕ) → blanks x 4 ≡ replicate 4 x
 unfolding blanks
 blanks_four x = refl
+
+pub record_laws : RecordLaws
+record_laws = record {
+  shows = λ m mem. ap (view rows_per_chunk (out_of m)) (fun_ext (λ i. ap recorded_line (row_record mem i)));
+  cleared = λ mem c. ap (λ zeros. paste mem (c * rows_per_chunk) zeros rows_per_chunk) (blanks_four blank_record);
+  replaced = λ mem c r l h p. row_set mem (c * rows_per_chunk + r) (record_of l) (omega arith);
+}

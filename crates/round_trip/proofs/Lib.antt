@@ -1,2 +1,4 @@
 -- The lemmas of `round_trip`.
 pub mod Fresh
+pub mod Lent
+pub mod Rowed

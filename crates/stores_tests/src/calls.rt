@@ -1,8 +1,8 @@
-// Calls on a store of any make, as values, each with what it must answer.
+// Calls on a store of any make, as values, each with what it must answer: they stand in tables, and are compared and printed.
 use lines::{Line, LineFault, Mapping, Page};
 use std::process::Abort;
 use std::test::Fail;
-use stores::{ChunkStore, StoreFault};
+use stores::{ChunkStore, RowIndex, StoreFault};
 
 // the last cluster
 pub(crate) const LAST: usize = 8_589_934_591;
@@ -26,7 +26,10 @@ pub(crate) type Answer = Result<usize, StoreFault>;
 
 // The line of the last cluster with eight large entries, no two alike.
 fn full() -> Result<Line, LineFault> {
-    let mut line = Line::only(Page::new(68_719_476_728)?, Mapping::new(17_179_869_183, 7)?);
+    let mut line = Line::only(
+        Page::try_from(68_719_476_728)?,
+        Mapping::new(17_179_869_183, 7)?,
+    );
     for position in 1..8 {
         let k = position as u64;
         line = line.with(position, Mapping::new(17_179_869_183 - k, 7 - k % 7)?);
@@ -41,22 +44,17 @@ fn line(cluster: usize) -> Result<Line, LineFault> {
         0 => Ok(Line::empty()),
         LAST => full(),
         _ => Ok(Line::only(
-            Page::new(c.wrapping_mul(8) | 1)?,
+            Page::try_from(c.wrapping_mul(8) | 1)?,
             Mapping::new(c.wrapping_mul(2), 1)?,
         )),
     }
 }
 
 // What is read is one of these lines; where reading is refused, the lent line stays.
-fn read<S: ChunkStore>(
-    rt: &impl Abort,
-    store: &S,
-    chunk: usize,
-    row: usize,
-) -> Result<Answer, Fail> {
+fn read<S: ChunkStore>(rt: &impl Abort, store: &S, at: RowIndex) -> Result<Answer, Fail> {
     let lent = line(7)?;
     let mut found = lent;
-    let answer = store.read(chunk, row, &mut found);
+    let answer = store.read(at, &mut found);
     if let Err(fault) = answer {
         assert!(rt; found == lent);
         return Ok(Err(fault));
@@ -74,9 +72,10 @@ fn ask<S: ChunkStore>(rt: &impl Abort, store: &mut S, call: Call) -> Result<Answ
         Call::Take => Ok(store.take()),
         Call::GiveBack(chunk) => Ok(store.give_back(chunk).and(Ok(0))),
         Call::Write(chunk, row, cluster) => {
-            Ok(store.write(chunk, row, &line(cluster)?).and(Ok(0)))
+            let at = RowIndex { chunk, row };
+            Ok(store.write(at, &line(cluster)?).and(Ok(0)))
         }
-        Call::Read(chunk, row) => read(rt, store, chunk, row),
+        Call::Read(chunk, row) => read(rt, store, RowIndex { chunk, row }),
     }
 }
 

@@ -8,7 +8,7 @@ use std::test::Fail;
 use stores::ChunkStore;
 
 fn goes_round<S: ChunkStore>(rt: &impl Abort, store: &mut S, row: usize) -> Result<(), Fail> {
-    let line = Line::only(Page::new(9)?, Mapping::new(2, 1)?);
+    let line = Line::only(Page::try_from(9)?, Mapping::new(2, 1)?);
     let mut found = Line::empty();
     let free = store.free();
     round_trip(store, row, &line, &mut found)?;
@@ -30,7 +30,7 @@ fn trips(rt: HostRuntime) -> Result<(), Fail> {
 
 #[test]
 fn loans(rt: HostRuntime) -> Result<(), Fail> {
-    let line = Line::only(Page::new(9)?, Mapping::new(2, 1)?);
+    let line = Line::only(Page::try_from(9)?, Mapping::new(2, 1)?);
     let mut records = [[7; 9]; 5];
     lend_records(&mut records, &line)?;
     assert_eq!(rt; records[0], [1, 0, 17, 0, 0, 0, 0, 0, 0]);

@@ -1,20 +1,10 @@
 -- What the search leaves to show of `round_trip`.
-use Rattle.std.proofs.Common.{◌≡◌, ℕ, Bool, true, false, cond, List, set, is_ok, ap, ◌∙◌, arith, get_or-set_same}
-use Rattle.std.proofs.lemmas.Bool.Decides.{nat_tests}
-use Rattle.stores.specs.Chunks.{Free, is_out}
+use Rattle.std.proofs.Common.{cond, is_ok, ap, ◌∙◌}
 use Rattle.stores.specs.Refusals.{row_refusal}
 use Rattle.stores.specs.Stores.{written, given_back}
-use Rattle.stores.proofs.Choosing.{some_free}
 use Rattle.stores.proofs.Modelling.{back_again}
-use Rattle.round_trip.specs.Trips.{trip_refusal}
+use Rattle.round_trip.proofs.Rowed.{row_taken}
 use Rattle.round_trip.proofs.users.round_trip.Goals as goal
-
--- a row of a chunk just taken is refused as that of a chunk yet to be taken
-row_taken : (rows : ℕ) (out : List Bool) (c r : ℕ) → Free out c → row_refusal rows (set out c true) c r ≡ trip_refusal rows out r
-row_taken rows out c r f =
-    let here : is_out (set out c true) c ≡ true = get_or-set_same out c true false f.0 in
-    let some = some_free out c f in
-    grind (arith, nat_tests)
 
 pub returns : goal.returns
 returns g c =

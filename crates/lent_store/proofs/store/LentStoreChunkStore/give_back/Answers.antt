@@ -1,5 +1,5 @@
 -- What the search leaves to show of `give_back`.
-use Rattle.std.proofs.Common.{is_ok, refl}
+use Rattle.std.proofs.Common.{is_ok, ap}
 use Rattle.stores.proofs.Meaning.{give_back_means}
 use Rattle.lent_store.specs.Memory.{line_at}
 use Rattle.lent_store.proofs.Whole.{same_store}
@@ -9,7 +9,8 @@ pub returns-clause-after : goal.returns-clause-after
 returns-clause-after g c =
     let f = g.F.RowForm in
     let s = c.args.self.now in
-    give_back_means f.ROWS (line_at f.CELLS f.line_of) s.marks _ s.mem.now _ c.args.chunk (is_ok c.give_back.result) c.give_back.ensures.after refl
+    let did = c.free_chunk.ensures in
+    give_back_means f.ROWS (line_at f.CELLS f.line_of) s.marks _ s.mem.now _ c.args.chunk (is_ok c.free_chunk.result) did.marks (ap (λ m. m.now) did.memory)
 
 pub returns-clause-refused : goal.returns-clause-refused
-returns-clause-refused g c = λ e. same_store _ _ refl (rw e at c.give_back.ensures.after)
+returns-clause-refused g c = λ e. same_store _ _ c.free_chunk.ensures.memory (rw e at c.free_chunk.ensures.marks)
