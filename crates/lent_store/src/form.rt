@@ -39,16 +39,22 @@ pub trait RowForm {
     fn put(row: &mut [Self::Cell], line: &Line)
         ensures { row.new ≡ (if length row.old == CELLS then row_of line.now else row.old) };
 
+    // Makes the cells blank, however many.
     fn clear(cells: &mut [Self::Cell])
         ensures { cells.new ≡ replicate (length cells.old) blank };
 
+    // a chunk has some cells
     ghost some: { 0 < ROWS * CELLS };
 
+    // so few that the cells of 256 chunks can be counted
     ghost few: { ROWS * CELLS ≤ 8192 };
 
+    // a line takes one row
     ghost row_size: { (l : TheLine) → length (row_of l) ≡ CELLS };
 
+    // a line put in a row is read from it
     ghost line_back: { (l : TheLine) → line_of (row_of l) ≡ l };
 
+    // a cleared row is that of the empty line
     ghost blank_row: { line_of (replicate CELLS blank) ≡ empty_line };
 }

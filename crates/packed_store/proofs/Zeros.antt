@@ -10,6 +10,8 @@ blanks_zeros n = refl
 
 pub packed_laws : PackedLaws
 packed_laws = record {
+  counts = λ mem. refl;
+  beyond = λ mem. refl;
   shows = λ m mem. refl;
   cleared = λ mem c. ap (λ bytes. paste mem (c * chunk_bytes) bytes chunk_bytes) (blanks_zeros chunk_bytes);
   replaced = λ mem c r l. refl;

@@ -1,5 +1,5 @@
 -- Packed lines as rows of memory, what a store on them holds, and what its calls leave in the bytes.
-use Rattle.std.specs.Prelude.{◌≡◌, ℕ, ◌+◌, ◌*◌, List, replicate, refl}
+use Rattle.std.specs.Prelude.{◌≡◌, ℕ, ◌+◌, ◌*◌, List, length, drop, replicate, refl}
 use Rattle.std.proofs.Common.{arith}
 use Rattle.std.specs.List.{between}
 use Rattle.std.proofs.Math.Seq.{paste}
@@ -7,7 +7,7 @@ use Rattle.lines.specs.declared.rows.Line.{Line}
 use Rattle.lines.specs.Decoded.{packed_line}
 use Rattle.lines.specs.Packs.{packed}
 use Rattle.stores.specs.Stores.{RowsPerChunk, Store}
-use Rattle.stores.specs.Views.{out_of, view}
+use Rattle.stores.specs.Views.{chunks_in, out_of, view}
 use Rattle.stores.specs.declared.marks.Marks.{Marks}
 use Rattle.lent_store.specs.Memory as memory
 
@@ -29,11 +29,11 @@ chunk_bytes = 8192
 
 -- how many chunks the handed-over bytes have room for
 abbrev pub chunk_count : List ℕ → ℕ
-chunk_count mem = memory.chunk_count rows_per_chunk line_bytes mem
+chunk_count mem = chunks_in chunk_bytes (length mem)
 
 -- the bytes beyond those chunks
 abbrev pub beyond_chunks : List ℕ → List ℕ
-beyond_chunks mem = memory.beyond_chunks rows_per_chunk line_bytes mem
+beyond_chunks mem = drop (chunk_count mem * chunk_bytes) mem
 
 -- the i-th line of the bytes
 abbrev pub line_at : List ℕ → ℕ → Line
@@ -61,6 +61,8 @@ row_replaced mem c r l = line_replaced mem (c * rows_per_chunk + r) l
 
 -- what a store on lent memory holds in bytes, and leaves in them
 pub record PackedLaws : Type 0 where
+  pub counts : (mem : List ℕ) → memory.chunk_count rows_per_chunk line_bytes mem ≡ chunk_count mem
+  pub beyond : (mem : List ℕ) → memory.beyond_chunks rows_per_chunk line_bytes mem ≡ beyond_chunks mem
   pub shows : (m : Marks) (mem : List ℕ) → view rows_per_chunk (out_of m) (memory.line_at line_bytes packed_line mem) ≡ shown m mem
   pub cleared : (mem : List ℕ) (c : ℕ) → memory.chunk_cleared rows_per_chunk line_bytes 0 mem c ≡ chunk_cleared mem c
   pub replaced : (mem : List ℕ) (c r : ℕ) (l : Line) → memory.row_replaced rows_per_chunk line_bytes mem c r (packed l) ≡ row_replaced mem c r l

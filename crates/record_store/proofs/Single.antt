@@ -25,6 +25,8 @@ blanks_four x = refl
 
 pub record_laws : RecordLaws
 record_laws = record {
+  counts = λ mem. refl;
+  beyond = λ mem. refl;
   shows = λ m mem. ap (view rows_per_chunk (out_of m)) (fun_ext (λ i. ap recorded_line (row_record mem i)));
   cleared = λ mem c. ap (λ zeros. paste mem (c * rows_per_chunk) zeros rows_per_chunk) (blanks_four blank_record);
   replaced = λ mem c r l h p. row_set mem (c * rows_per_chunk + r) (record_of l) (omega arith);

@@ -1,11 +1,11 @@
 -- Records as rows of memory, what a store on them holds, and what its calls leave in them.
-use Rattle.std.specs.Prelude.{◌≡◌, ℕ, ◌+◌, ◌*◌, ◌<◌, List, [], ◌∷◌, replicate, slice_index_or, slice_set, refl}
+use Rattle.std.specs.Prelude.{◌≡◌, ℕ, ◌+◌, ◌*◌, ◌<◌, List, [], ◌∷◌, length, drop, replicate, slice_index_or, slice_set, refl}
 use Rattle.std.proofs.Common.{arith}
 use Rattle.std.proofs.Math.Seq.{paste}
 use Rattle.lines.specs.declared.rows.Line.{Line}
 use Rattle.lines.specs.Decoded.{record_of, recorded_line}
 use Rattle.stores.specs.Stores.{RowsPerChunk, Store}
-use Rattle.stores.specs.Views.{out_of, view}
+use Rattle.stores.specs.Views.{chunks_in, out_of, view}
 use Rattle.stores.specs.declared.marks.Marks.{Marks}
 use Rattle.lent_store.specs.Memory as memory
 
@@ -35,11 +35,11 @@ row_line row = recorded_line (slice_index_or row 0 [])
 
 -- how many chunks the handed-over records have room for
 abbrev pub chunk_count : List (List ℕ) → ℕ
-chunk_count mem = memory.chunk_count rows_per_chunk records_per_row mem
+chunk_count mem = chunks_in rows_per_chunk (length mem)
 
 -- the records beyond those chunks
 abbrev pub beyond_chunks : List (List ℕ) → List (List ℕ)
-beyond_chunks mem = memory.beyond_chunks rows_per_chunk records_per_row mem
+beyond_chunks mem = drop (chunk_count mem * rows_per_chunk) mem
 
 -- the line of record i
 abbrev pub line_at : List (List ℕ) → ℕ → Line
@@ -59,6 +59,8 @@ row_replaced mem c r l = slice_set mem (c * rows_per_chunk + r) (record_of l)
 
 -- what a store on lent memory holds in records, and leaves in them
 pub record RecordLaws : Type 0 where
+  pub counts : (mem : List (List ℕ)) → memory.chunk_count rows_per_chunk records_per_row mem ≡ chunk_count mem
+  pub beyond : (mem : List (List ℕ)) → memory.beyond_chunks rows_per_chunk records_per_row mem ≡ beyond_chunks mem
   pub shows : (m : Marks) (mem : List (List ℕ)) → view rows_per_chunk (out_of m) (memory.line_at records_per_row row_line mem) ≡ shown m mem
   pub cleared : (mem : List (List ℕ)) (c : ℕ) → memory.chunk_cleared rows_per_chunk records_per_row blank_record mem c ≡ chunk_cleared mem c
   pub replaced : (mem : List (List ℕ)) (c r : ℕ) (l : Line) → c < chunk_count mem → r < rows_per_chunk → memory.row_replaced rows_per_chunk records_per_row mem c r (row_of l) ≡ row_replaced mem c r l

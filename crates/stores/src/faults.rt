@@ -17,6 +17,7 @@ pub enum StoreFault {
 }
 
 impl StoreFault {
+    // the number by which the rules name it
     pub fn number(self) -> u64
         ensures { result ≡ slice_index (told self) 0 }
     {

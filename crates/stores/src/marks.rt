@@ -84,9 +84,7 @@ impl Marks {
         ensures after { MarksTook (out_of self.old) self.old result self.new }
         ensures below { IfOk result (λ c. c < self.old.count) }
     {
-        let Some(chunk) = chosen(self.chunks(), self.mark) else {
-            return Err(StoreFault::NoneFree);
-        };
+        let chunk = chosen(self.chunks(), self.mark).ok_or(StoreFault::NoneFree)?;
         self.mark_out(chunk);
         Ok(chunk)
     }

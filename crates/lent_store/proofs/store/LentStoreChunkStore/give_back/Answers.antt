@@ -1,6 +1,7 @@
 -- What the search leaves to show of `give_back`.
-use Rattle.std.proofs.Common.{is_ok, ap}
-use Rattle.stores.proofs.Meaning.{give_back_means}
+use Rattle.std.proofs.Common.{is_ok, ap, ◌∙◌}
+use Rattle.stores.specs.Views.{out_of, view}
+use Rattle.stores.proofs.Meaning.{view_marks_given}
 use Rattle.lent_store.specs.Memory.{line_at}
 use Rattle.lent_store.proofs.Whole.{same_store}
 use Rattle.lent_store.proofs.store.LentStoreChunkStore.give_back.Goals as goal
@@ -10,7 +11,8 @@ returns-clause-after g c =
     let f = g.F.RowForm in
     let s = c.args.self.now in
     let did = c.free_chunk.ensures in
-    give_back_means f.ROWS (line_at f.CELLS f.line_of) s.marks _ s.mem.now _ c.args.chunk (is_ok c.free_chunk.result) did.marks (ap (λ m. m.now) did.memory)
+    ap (λ mem. view f.ROWS (out_of c.free_chunk.new.self.marks) (line_at f.CELLS f.line_of mem.now)) did.memory
+    ∙ view_marks_given f.ROWS (line_at f.CELLS f.line_of s.mem.now) s.marks _ c.args.chunk (is_ok c.free_chunk.result) did.marks
 
 pub returns-clause-refused : goal.returns-clause-refused
 returns-clause-refused g c = λ e. same_store _ _ c.free_chunk.ensures.memory (rw e at c.free_chunk.ensures.marks)
