@@ -57,18 +57,23 @@ module _ {A : Type 0} (rows cells : ℕ) where
       let at : ℕ = (d * rows + r) * cells in
       paste_beside mem (blanks blank (rows * cells)) (c * (rows * cells)) (rows * cells) at (at + cells) h (length-blanks blank (rows * cells)) (chunk_beside rows cells c d r ne p)
 
-  pub shown_taken : (line_of : List A → Line) (blank : A) (m : Marks) (mem : List A) (c : ℕ) → line_of (replicate cells blank) ≡ empty_line → c * (rows * cells) + rows * cells ≤ length mem → view rows (out_of (marks_taken m c)) (line_at cells line_of (chunk_cleared rows cells blank mem c)) ≡ taken (view rows (out_of m) (line_at cells line_of mem)) c
+  pub shown_taken : (line_of : List A → Line) (blank : A) (m : Marks) (mem : List A) (c : ℕ) → line_of (replicate cells blank) ≡ empty_line → c * (rows * cells) + rows * cells ≤ length mem → view rows (out_of (chunk_count rows cells (chunk_cleared rows cells blank mem c)) (marks_taken m c)) (line_at cells line_of (chunk_cleared rows cells blank mem c)) ≡ taken (view rows (out_of (chunk_count rows cells mem) m) (line_at cells line_of mem)) c
   shown_taken line_of blank m mem c empty h =
       let after : ℕ → Line = line_at cells line_of (chunk_cleared rows cells blank mem c) in
-      ap (λ out. view rows out after) (out_taken m c)
-      ∙ view_taken rows (out_of m) (line_at cells line_of mem) after c
+      let n = chunk_count rows cells mem in
+      ap (λ k. view rows (out_of (chunks_in (rows * cells) k) (marks_taken m c)) after) (length-cleared blank mem c h)
+      ∙ ap (λ out. view rows out after) (out_taken n m c)
+      ∙ view_taken rows (out_of n m) (line_at cells line_of mem) after c
       (λ r p. ap line_of (cleared_here blank mem c r h p) ∙ empty)
       (λ d r ne p. ap line_of (cleared_other blank mem c d r h ne p))
 
-  pub shown_written : (line_of : List A → Line) (row : List A) (l : Line) (m : Marks) (mem : List A) (c r : ℕ) → length row ≡ cells → line_of row ≡ l → is_out (out_of m) c ≡ true → r < rows → (c * rows + r) * cells + cells ≤ length mem → view rows (out_of m) (line_at cells line_of (row_replaced rows cells mem c r row)) ≡ written (view rows (out_of m) (line_at cells line_of mem)) c r l
+  pub shown_written : (line_of : List A → Line) (row : List A) (l : Line) (m : Marks) (mem : List A) (c r : ℕ) → length row ≡ cells → line_of row ≡ l → is_out (out_of (chunk_count rows cells mem) m) c ≡ true → r < rows → (c * rows + r) * cells + cells ≤ length mem → view rows (out_of (chunk_count rows cells (row_replaced rows cells mem c r row)) m) (line_at cells line_of (row_replaced rows cells mem c r row)) ≡ written (view rows (out_of (chunk_count rows cells mem) m) (line_at cells line_of mem)) c r l
   shown_written line_of row l m mem c r long back out p h =
       let i : ℕ = c * rows + r in
-      view_written rows (out_of m) (line_at cells line_of mem) (line_at cells line_of (row_put cells mem i row)) c r l out p
+      let after : ℕ → Line = line_at cells line_of (row_put cells mem i row) in
+      let n = chunk_count rows cells mem in
+      ap (λ k. view rows (out_of (chunks_in (rows * cells) k) m) after) (length-replaced row mem i long h)
+      ∙ view_written rows (out_of n m) (line_at cells line_of mem) after c r l out p
       (ap line_of (paste_here mem row (i * cells) cells h (sym long)) ∙ back)
       (λ j ne. ap line_of (paste_beside mem row (i * cells) cells (j * cells) (j * cells + cells) h (sym long) (row_beside cells i j ne)))
 

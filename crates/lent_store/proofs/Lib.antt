@@ -2,4 +2,3 @@
 pub mod Changing
 pub mod Pasting
 pub mod Rooms
-pub mod Whole

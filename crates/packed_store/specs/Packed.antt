@@ -39,9 +39,9 @@ beyond_chunks mem = drop (chunk_count mem * chunk_bytes) mem
 abbrev pub line_at : List ℕ → ℕ → Line
 line_at mem i = packed_line (between (i * line_bytes) (i * line_bytes + line_bytes) mem)
 
--- what a store with these marks holds
+-- what a store with these marks and this memory holds
 abbrev pub shown : Marks → List ℕ → Store
-shown m mem = view rows_per_chunk (out_of m) (line_at mem)
+shown m mem = view rows_per_chunk (out_of (chunk_count mem) m) (line_at mem)
 
 -- so many bytes that are 0
 unfoldable pub zeros : ℕ → List ℕ
@@ -63,6 +63,6 @@ row_replaced mem c r l = line_replaced mem (c * rows_per_chunk + r) l
 pub record PackedLaws : Type 0 where
   pub counts : (mem : List ℕ) → memory.chunk_count rows_per_chunk line_bytes mem ≡ chunk_count mem
   pub beyond : (mem : List ℕ) → memory.beyond_chunks rows_per_chunk line_bytes mem ≡ beyond_chunks mem
-  pub shows : (m : Marks) (mem : List ℕ) → view rows_per_chunk (out_of m) (memory.line_at line_bytes packed_line mem) ≡ shown m mem
+  pub shows : (m : Marks) (mem : List ℕ) → view rows_per_chunk (out_of (memory.chunk_count rows_per_chunk line_bytes mem) m) (memory.line_at line_bytes packed_line mem) ≡ shown m mem
   pub cleared : (mem : List ℕ) (c : ℕ) → memory.chunk_cleared rows_per_chunk line_bytes 0 mem c ≡ chunk_cleared mem c
   pub replaced : (mem : List ℕ) (c r : ℕ) (l : Line) → memory.row_replaced rows_per_chunk line_bytes mem c r (packed l) ≡ row_replaced mem c r l

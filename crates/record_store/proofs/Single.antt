@@ -7,7 +7,7 @@ use mathlib.Core.Path.{fun_ext}
 use Rattle.lines.specs.Decoded.{record_of, recorded_line}
 use Rattle.stores.specs.Views.{out_of, view}
 use Rattle.lent_store.specs.Memory.{blanks}
-use Rattle.record_store.specs.Records.{RecordLaws, blank_record, rows_per_chunk}
+use Rattle.record_store.specs.Records.{RecordLaws, blank_record, chunk_count, rows_per_chunk}
 
 -- the one record of a row
 row_record : (mem : List (List ℕ)) (i : ℕ) → get_or (between (i * 1) (i * 1 + 1) mem) 0 [] ≡ get_or mem i []
@@ -27,7 +27,7 @@ pub record_laws : RecordLaws
 record_laws = record {
   counts = λ mem. refl;
   beyond = λ mem. refl;
-  shows = λ m mem. ap (view rows_per_chunk (out_of m)) (fun_ext (λ i. ap recorded_line (row_record mem i)));
+  shows = λ m mem. ap (view rows_per_chunk (out_of (chunk_count mem) m)) (fun_ext (λ i. ap recorded_line (row_record mem i)));
   cleared = λ mem c. ap (λ zeros. paste mem (c * rows_per_chunk) zeros rows_per_chunk) (blanks_four blank_record);
   replaced = λ mem c r l h p. row_set mem (c * rows_per_chunk + r) (record_of l) (omega arith);
 }

@@ -45,9 +45,9 @@ beyond_chunks mem = drop (chunk_count mem * rows_per_chunk) mem
 abbrev pub line_at : List (List ℕ) → ℕ → Line
 line_at mem i = recorded_line (slice_index_or mem i [])
 
--- what a store with these marks holds
+-- what a store with these marks and this memory holds
 abbrev pub shown : Marks → List (List ℕ) → Store
-shown m mem = view rows_per_chunk (out_of m) (line_at mem)
+shown m mem = view rows_per_chunk (out_of (chunk_count mem) m) (line_at mem)
 
 -- the records with the four of a chunk all zeros, which is the empty line
 abbrev pub chunk_cleared : List (List ℕ) → ℕ → List (List ℕ)
@@ -61,6 +61,6 @@ row_replaced mem c r l = slice_set mem (c * rows_per_chunk + r) (record_of l)
 pub record RecordLaws : Type 0 where
   pub counts : (mem : List (List ℕ)) → memory.chunk_count rows_per_chunk records_per_row mem ≡ chunk_count mem
   pub beyond : (mem : List (List ℕ)) → memory.beyond_chunks rows_per_chunk records_per_row mem ≡ beyond_chunks mem
-  pub shows : (m : Marks) (mem : List (List ℕ)) → view rows_per_chunk (out_of m) (memory.line_at records_per_row row_line mem) ≡ shown m mem
+  pub shows : (m : Marks) (mem : List (List ℕ)) → view rows_per_chunk (out_of (memory.chunk_count rows_per_chunk records_per_row mem) m) (memory.line_at records_per_row row_line mem) ≡ shown m mem
   pub cleared : (mem : List (List ℕ)) (c : ℕ) → memory.chunk_cleared rows_per_chunk records_per_row blank_record mem c ≡ chunk_cleared mem c
   pub replaced : (mem : List (List ℕ)) (c r : ℕ) (l : Line) → c < chunk_count mem → r < rows_per_chunk → memory.row_replaced rows_per_chunk records_per_row mem c r (row_of l) ≡ row_replaced mem c r l

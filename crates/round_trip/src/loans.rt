@@ -17,8 +17,8 @@ use stores::{ChunkStore, RowIndex, StoreFault};
 
 // Writes a line to a chunk taken for it, and gives the chunk back.
 fn leave<F: RowForm>(store: &mut LentStore<F>, line: &Line) -> Result<(), StoreFault>
-    ensures said { refusal result ≡ take_refusal (shown store.old).out }
-    ensures memory { store.new.mem.now ≡ memory_after F.ROWS F.CELLS F.blank (free_count (shown store.old).out) (chosen (shown store.old).out store.old.marks.mark) store.old.mem.now (F.row_of line.now) }
+    ensures said { refusal result ≡ take_refusal (shown F.ROWS F.CELLS F.line_of store.old).out }
+    ensures memory { store.new.mem.now ≡ memory_after F.ROWS F.CELLS F.blank (free_count (shown F.ROWS F.CELLS F.line_of store.old).out) (chosen (shown F.ROWS F.CELLS F.line_of store.old).out store.old.marks.mark) store.old.mem.now (F.row_of line.now) }
     ensures named { store.new.mem.ghost_name ≡ store.old.mem.ghost_name }
 {
     let chunk = store.take()?;

@@ -16,21 +16,19 @@ take_set_at (suc n) [] c x = refl
 take_set_at (suc n) (y ∷ xs) zero x = refl
 take_set_at (suc n) (y ∷ xs) (suc c) x = ap (λ r. y ∷ r) (take_set_at n xs c x)
 
-pub out_taken : (m : Marks) (c : ℕ) → out_of (marks_taken m c) ≡ set (out_of m) c true
-out_taken m c = take_set_at m.count m.out c true
+pub out_taken : (n : ℕ) (m : Marks) (c : ℕ) → out_of n (marks_taken m c) ≡ set (out_of n m) c true
+out_taken n m c = take_set_at n m.out c true
 
-pub out_new : (m : Marks) (n : ℕ) → m.out ≡ replicate 256 false → m.count ≡ n → out_of m ≡ replicate n false
-out_new m n new count =
-    let few = m.few in
-    ap₂ take count new ∙ take-replicate n 256 false (omega arith)
+pub out_new : (n : ℕ) (m : Marks) → m.out ≡ replicate 256 false → n ≤ 256 → out_of n m ≡ replicate n false
+out_new n m new few = ap (take n) new ∙ take-replicate n 256 false few
 
 -- what giving back does to the marks, where it is accepted
 pub view_marks_given :
-    (rows : ℕ) (at : ℕ → Line) (m m' : Marks) (c : ℕ) (b : Bool) → m' ≡ cond b (marks_given m c) m →
-    view rows (out_of m') at ≡ cond b (given_back (view rows (out_of m) at) c) (view rows (out_of m) at)
-view_marks_given rows at m m' c true marks =
-    ap (λ k. view rows (out_of k) at) marks ∙ ap (λ out. view rows out at) (take_set_at m.count m.out c false) ∙ view_given rows (out_of m) at c
-view_marks_given rows at m m' c false marks = ap (λ k. view rows (out_of k) at) marks
+    (rows n : ℕ) (at : ℕ → Line) (m m' : Marks) (c : ℕ) (b : Bool) → m' ≡ cond b (marks_given m c) m →
+    view rows (out_of n m') at ≡ cond b (given_back (view rows (out_of n m) at) c) (view rows (out_of n m) at)
+view_marks_given rows n at m m' c true marks =
+    ap (λ k. view rows (out_of n k) at) marks ∙ ap (λ out. view rows out at) (take_set_at n m.out c false) ∙ view_given rows (out_of n m) at c
+view_marks_given rows n at m m' c false marks = ap (λ k. view rows (out_of n k) at) marks
 
 -- what lies past a part that was written over
 pub drop_past : {A : Type 0} (xs ys : List A) (a n k : ℕ) → a + n ≤ length xs → n ≤ length ys → a + n ≤ k → drop k (paste xs a ys n) ≡ drop k xs

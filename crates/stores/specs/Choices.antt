@@ -15,7 +15,7 @@ chosen out mark = cond (nat_lt (free_from out mark) (length out)) (free_from out
 
 -- a chunk is taken: it is out, and the mark stands one past it
 abbrev pub marks_taken : Marks → ℕ → Marks
-marks_taken m c = record m { out = slice_set m.out c true; mark = c + 1 }
+marks_taken m c = record { out = slice_set m.out c true; mark = c + 1 }
 
 -- what comes of the marks when a chunk is to be taken: the one chosen, which was free, or nothing changes
 abbrev pub MarksTook : List Bool → Marks → Result ℕ StoreFault → Marks → Type 0
@@ -24,4 +24,4 @@ MarksTook out m (Err e) m' = m' ≡ m
 
 -- a chunk is given back: it is free, and the mark stays
 abbrev pub marks_given : Marks → ℕ → Marks
-marks_given m c = record m { out = slice_set m.out c false }
+marks_given m c = record { out = slice_set m.out c false; mark = m.mark }

@@ -10,9 +10,9 @@ use Rattle.stores.specs.declared.marks.Marks.{Marks}
 abbrev pub chunks_in : ℕ → ℕ → ℕ
 chunks_in size len = min 256 (len / size)
 
--- the marks of the chunks that there are
-abbrev pub out_of : Marks → List Bool
-out_of m = take m.count m.out
+-- the marks of the first n chunks
+abbrev pub out_of : ℕ → Marks → List Bool
+out_of n m = take n m.out
 
 -- chunks with these marks and so many rows each, over a memory whose i-th line is `at i`: row r of chunk c is line c * rows + r
 abbrev pub view : ℕ → List Bool → (ℕ → Line) → Store

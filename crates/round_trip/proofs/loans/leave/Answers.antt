@@ -2,6 +2,7 @@
 use Rattle.std.proofs.Common.{ap, ◌∙◌}
 use Rattle.stores.specs.Refusals.{row_refusal}
 use Rattle.stores.specs.Views.{out_of}
+use Rattle.lent_store.specs.Memory.{chunk_count}
 use Rattle.round_trip.proofs.Rowed.{first_row, something_told}
 use Rattle.round_trip.proofs.loans.leave.Goals as goal
 
@@ -11,4 +12,4 @@ returns-in_err-write-clause-memory g c =
     let f = g.F.RowForm in
     let k = c.in_ok-chunk.chunk in
     let took = c.in_ok-chunk.ensures.after in
-    absurd (something_told _ (c.in_err-write.ensures.said ∙ ap (λ t. row_refusal f.ROWS t.out k 0) took.1 ∙ first_row f.ROWS (out_of c.args.store.now.marks) k f.rows_power took.0))
+    absurd (something_told _ (c.in_err-write.ensures.said ∙ ap (λ t. row_refusal f.ROWS t.out k 0) took.1 ∙ first_row f.ROWS (out_of (chunk_count f.ROWS f.CELLS c.args.store.now.mem.now) c.args.store.now.marks) k f.rows_power took.0))

@@ -6,11 +6,8 @@ use Rattle.stores.proofs.Viewing.{view_new}
 use Rattle.lent_store.specs.Memory.{chunk_count, line_at}
 use Rattle.lent_store.proofs.store.LentStore.new.Goals as goal
 
-pub nonzero_div-mem : goal.nonzero_div-mem
-nonzero_div-mem g c = rw (c.ROWS.ensures, c.CELLS.ensures) g.met.F.RowForm.some
-
 pub returns-clause-model : goal.returns-clause-model
 returns-clause-model g c =
     let f = g.F.RowForm in
     let n = chunk_count f.ROWS f.CELLS c.args.mem.now in
-    view_new f.ROWS n (out_of c.new-marks.result) (line_at f.CELLS f.line_of c.args.mem.now) (out_new c.new-marks.result n c.new-marks.ensures.out (omega arith))
+    view_new f.ROWS n (out_of n c.new.result) (line_at f.CELLS f.line_of c.args.mem.now) (out_new n c.new.result c.new.ensures.out (omega arith))

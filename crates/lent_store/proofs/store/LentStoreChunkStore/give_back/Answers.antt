@@ -1,9 +1,8 @@
 -- What the search leaves to show of `give_back`.
-use Rattle.std.proofs.Common.{is_ok, ap, ◌∙◌}
+use Rattle.std.proofs.Common.{is_ok, ap, ◌∙◌, ap₂}
 use Rattle.stores.specs.Views.{out_of, view}
 use Rattle.stores.proofs.Meaning.{view_marks_given}
-use Rattle.lent_store.specs.Memory.{line_at}
-use Rattle.lent_store.proofs.Whole.{same_store}
+use Rattle.lent_store.specs.Memory.{chunk_count, line_at}
 use Rattle.lent_store.proofs.store.LentStoreChunkStore.give_back.Goals as goal
 
 pub returns-clause-after : goal.returns-clause-after
@@ -11,8 +10,8 @@ returns-clause-after g c =
     let f = g.F.RowForm in
     let s = c.args.self.now in
     let did = c.free_chunk.ensures in
-    ap (λ mem. view f.ROWS (out_of c.free_chunk.new.self.marks) (line_at f.CELLS f.line_of mem.now)) did.memory
-    ∙ view_marks_given f.ROWS (line_at f.CELLS f.line_of s.mem.now) s.marks _ c.args.chunk (is_ok c.free_chunk.result) did.marks
+    ap (λ mem. view f.ROWS (out_of (chunk_count f.ROWS f.CELLS mem.now) c.free_chunk.new.self.marks) (line_at f.CELLS f.line_of mem.now)) did.memory
+    ∙ view_marks_given f.ROWS (chunk_count f.ROWS f.CELLS s.mem.now) (line_at f.CELLS f.line_of s.mem.now) s.marks _ c.args.chunk (is_ok c.free_chunk.result) did.marks
 
 pub returns-clause-refused : goal.returns-clause-refused
-returns-clause-refused g c = λ e. same_store _ _ c.free_chunk.ensures.memory (rw e at c.free_chunk.ensures.marks)
+returns-clause-refused g c = λ e. ap₂ (λ mem marks. record { mem = mem; marks = marks }) c.free_chunk.ensures.memory (rw e at c.free_chunk.ensures.marks)
