@@ -1,12 +1,13 @@
 // Lines laid into rows.
-ghost use Rattle.std.specs.Prelude.{◌≡◌, ◌/◌, ◌<◌, ◌≤◌, min, true, [], length, vec_len, vec_capacity, MatchResult, OnOk};
+// The store and the list of chunks taken from it stay two parameters: a struct of both would hold the loan of the store, and each contract would have to say that the loan is the same afterwards.
+ghost use Rattle.std.specs.Prelude.{◌≡◌, ◌/◌, ◌%◌, ◌<◌, ◌≤◌, min, true, [], length, vec_len, vec_capacity, MatchResult, OnOk, slice_index};
 ghost use Rattle.stores.specs.Chunks.{free_count, is_out};
 ghost use Rattle.stores.specs.Stores.{written};
 ghost use Rattle.keeping.specs.Laid.{Opened, Ready, NoRoom, LineLaid, Laid, line_put};
 ghost use Rattle.keeping.specs.Stays.{chunks_for, rows_for, stop_refusal, left_out_refusal};
 
 use lines::Line;
-use stores::{ChunkStore, StoreFault};
+use stores::{ChunkStore, RowIndex, StoreFault};
 
 // Takes a chunk for line k where its row is the first of one, and puts it at the end of the list.
 fn take_for<S: ChunkStore>(
@@ -30,11 +31,23 @@ fn take_for<S: ChunkStore>(
 }
 
 // Replaces the line in a row that can be reached.
-fn write_row<S: ChunkStore>(store: &mut S, chunk: usize, row: usize, line: &Line)
-    requires { (is_out (S.ChunkStore.model store.old).out chunk ≡ true) × (row < S.ChunkStore.rows) }
-    ensures { S.ChunkStore.model store.new ≡ written (S.ChunkStore.model store.old) chunk row line.now }
+fn write_row<S: ChunkStore>(store: &mut S, at: RowIndex, line: &Line)
+    requires { (is_out (S.ChunkStore.model store.old).out at.chunk ≡ true) × (at.row < S.ChunkStore.rows) }
+    ensures { S.ChunkStore.model store.new ≡ written (S.ChunkStore.model store.old) at.chunk at.row line.now }
 {
-    let _ = store.write(chunk, row, line);
+    let _ = store.write(at, line);
+}
+
+// the row of line k, for which there is a chunk
+pub(crate) fn row_of(chunks: &[usize], rows: usize, k: usize) -> RowIndex
+    requires { (0 < rows) × (k / rows < length chunks.now) }
+    ensures chunk { result.chunk ≡ slice_index chunks.now (k / rows) }
+    ensures row { result.row ≡ k % rows }
+{
+    RowIndex {
+        chunk: chunks[k / rows],
+        row: k % rows,
+    }
 }
 
 // Writes line k into its row, for which there is a chunk.
@@ -42,8 +55,8 @@ fn put_line<S: ChunkStore>(store: &mut S, chunks: &[usize], k: usize, line: &Lin
     requires { Ready S.ChunkStore.rows k (S.ChunkStore.model store.old) chunks.now }
     ensures { S.ChunkStore.model store.new ≡ line_put S.ChunkStore.rows k line.now (S.ChunkStore.model store.old) chunks.now }
 {
-    let rows = S::rows_per_chunk();
-    write_row(store, chunks[k / rows], k % rows, line);
+    let at = row_of(chunks, S::rows_per_chunk(), k);
+    write_row(store, at, line);
 }
 
 // Lays line k into its row, for which a chunk is taken where it is the first of one.

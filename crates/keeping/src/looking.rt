@@ -1,16 +1,17 @@
 // Rows read back.
-ghost use Rattle.std.specs.Prelude.{◌≡◌, [], length, Decides};
+ghost use Rattle.std.specs.Prelude.{◌≡◌, ◌↔◌, [], length, IsTrue};
 ghost use Rattle.stores.specs.Refusals.{row_refusal};
 ghost use Rattle.keeping.specs.Laid.{Standing};
 
+use crate::laying::row_of;
 use lines::Line;
-use stores::ChunkStore;
+use stores::{ChunkStore, RowIndex};
 
-fn reads_back<S: ChunkStore>(store: &S, chunk: usize, row: usize, line: &Line) -> bool
-    ensures { Decides result ((row_refusal S.ChunkStore.rows (S.ChunkStore.model store.now).out chunk row ≡ []) × ((S.ChunkStore.model store.now).line chunk row ≡ line.now)) }
+fn reads_back<S: ChunkStore>(store: &S, at: RowIndex, line: &Line) -> bool
+    ensures { IsTrue result ↔ ((row_refusal S.ChunkStore.rows (S.ChunkStore.model store.now).out at.chunk at.row ≡ []) × ((S.ChunkStore.model store.now).line at.chunk at.row ≡ line.now)) }
 {
     let mut found = Line::empty();
-    store.read(chunk, row, &mut found).is_ok() && found == *line
+    store.read(at, &mut found).is_ok() && found == *line
 }
 
 // How many of the lines read back the same, line k from row k mod R of chunk k div R of the list.
@@ -19,9 +20,11 @@ pub(crate) fn count_same<S: ChunkStore>(store: &S, chunks: &[usize], lines: &[Li
     ensures { result ≡ length lines.now }
 {
     let rows = S::rows_per_chunk();
+    // counted here: the clauses of `filter` say which items pass, and not how many
     let mut same = 0;
     for (k, line) in lines.iter().enumerate() {
-        if reads_back(store, chunks[k / rows], k % rows, line) {
+        let at = row_of(chunks, rows, k);
+        if reads_back(store, at, line) {
             same += 1;
         }
     }
