@@ -1,14 +1,14 @@
 -- Chunks given back.
-use Rattle.std.proofs.Common.{◌≡◌, ℕ, ◌+◌, ◌<◌, Bool, true, false, cond, ◌≢◌, List, [], ◌∷◌, ◌++◌, length, get_or, take, set, is_ok, Ok, Err, Result, sym, refl, ap, ◌∙◌, ⊎_elim, arith}
+use Rattle.std.proofs.Common.{◌≡◌, ℕ, ◌+◌, Bool, true, false, cond, ◌≢◌, List, [], ◌∷◌, ◌++◌, length, get_or, take, set, is_ok, Ok, Err, Result, sym, refl, ap, ◌∙◌, ⊎_elim, arith}
 use Rattle.std.proofs.lemmas.List.{set_comm, set-get_or, take_all, take_more}
-use Rattle.std.proofs.lemmas.Bool.{cases_Bool, cases_eq, lt-ltb}
+use Rattle.std.proofs.lemmas.Bool.{cases_Bool, cases_eq}
 use Rattle.std.proofs.lemmas.Bool.Decides.{nat_tests}
 use Rattle.lines.specs.declared.rows.Line.{Line}
 use Rattle.lines.specs.Lines.{empty_line}
 use Rattle.stores.specs.declared.faults.StoreFault.{StoreFault}
 use Rattle.stores.specs.declared.faults.StoreFault.TheVariants.{TooFewFree, NoneFree, NotOut, NoSuchRow}
 use Rattle.stores.specs.Chunks.{is_out}
-use Rattle.stores.specs.Refusals.{told, refusal, give_back_refusal, row_refusal}
+use Rattle.stores.specs.Refusals.{told, refusal, give_back_refusal}
 use Rattle.stores.specs.Stores.{Store, Bounded, taken, given_back, written}
 use Rattle.stores.proofs.Modelling.{same_store, not_out_empty, back_again}
 use Rattle.keeping.specs.Laid.{all_given}
@@ -67,10 +67,3 @@ back_written t cs k r l e =
     ∙ ap (λ u. all_given u p) (given_written t c r l)
     ∙ sym (given_push t p c)
     ∙ ap (all_given t) (sym f)
-
--- a row of a chunk that is out is written
-pub written_there :
-    {A : Type 0} (rows : ℕ) (s t u : Store) (c r : ℕ) (a : Result A StoreFault) → is_out s.out c ≡ true → r < rows →
-    refusal a ≡ row_refusal rows s.out c r → t ≡ cond (is_ok a) u s → t ≡ u
-written_there rows s t u c r (Ok x) out within said after = after
-written_there rows s t u c r (Err e) out within said after = let b = lt-ltb r rows within in absurd (some_told e (said ∙ rw (out, b)))

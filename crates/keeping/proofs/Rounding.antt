@@ -1,6 +1,6 @@
 -- How many chunks lines need.
 use Rattle.std.proofs.Common.{◌≡◌, ℕ, ◌+◌, ◌*◌, ◌/◌, ◌%◌, ◌<◌, ◌≤◌, ap, ◌∙◌, ⊎_elim, add-mul, one-mul, arith, pow_pos}
-use Rattle.std.proofs.lemmas.Nat.{div-add-mod', div_below, div-mul-add, mod_below, mod-mul-add}
+use Rattle.std.proofs.lemmas.Nat.{div-add-mod', div-mul-add, mod_below, mod-mul-add}
 use Rattle.std.proofs.lemmas.Bool.{cases_lt, cases_eq}
 use Rattle.stores.specs.Stores.{RowsPerChunk}
 use Rattle.keeping.specs.Stays.{chunks_for}
@@ -39,7 +39,3 @@ chunks_hold rows n pos =
     (λ (z : n % rows ≡ 0). let c : chunks_for rows n ≡ q = omega arith in rw c (omega arith))
     (λ (z : n % rows ≡ 0 → ⊥). let c : chunks_for rows n ≡ q + 1 = omega arith in rw c (omega arith))
     (cases_eq (n % rows) 0)
-
--- the chunk of a line is one of those that the lines need
-pub row_inside : (rows n k : ℕ) → 0 < rows → k < n → k / rows < chunks_for rows n
-row_inside rows n k pos h = let e = chunks_hold rows n pos in div_below k rows (chunks_for rows n) pos (omega arith)

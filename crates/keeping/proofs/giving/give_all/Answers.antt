@@ -1,6 +1,6 @@
 -- What the search leaves to show of `give_all`.
 use Rattle.std.proofs.Common.{◌+◌, drop, sym, ap, ◌∙◌, arith}
-use Rattle.std.proofs.lemmas.List.{at_drop_more, at_drop_all}
+use Rattle.std.proofs.lemmas.List.{at_drop_more}
 use Rattle.keeping.specs.Laid.{all_given}
 use Rattle.keeping.proofs.Returning.{given_anyway}
 use Rattle.keeping.proofs.giving.give_all.Goals as goal
@@ -13,6 +13,3 @@ loop-chunk-preserved g c =
     let now = c.loop-chunk.store in
     let given = given_anyway _ (m now) _ _ c.give_back.result (g.S.ChunkStore.bounded now) c.give_back.ensures.said c.give_back.ensures.after in
     ap (λ t. all_given t (drop (i + 1) cs)) given ∙ sym (at_drop_more (all_given (m now)) cs i 0 (omega arith)) ∙ c.loop-chunk.invariant
-
-pub returns : goal.returns
-returns g c = sym (at_drop_all (all_given (g.S.ChunkStore.model c.loop-chunk.store)) c.args.chunks.now c.loop-chunk.chunk-index (omega arith)) ∙ c.loop-chunk.invariant

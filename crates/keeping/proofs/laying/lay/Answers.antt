@@ -1,24 +1,11 @@
 -- What the search leaves to show of `lay`.
-use Rattle.std.proofs.Common.{◌≡◌, length, vec_items, ap, ◌∙◌, subst, arith, rules}
-use Rattle.std.proofs.lemmas.Nat.{mod_below}
+use Rattle.std.proofs.Common.{◌≡◌, length, vec_items, subst, arith, rules}
 use Rattle.std.proofs.lemmas.List.{get_or_read}
-use Rattle.std.proofs.lemmas.Bool.Decides.{nat_tests}
 use Rattle.lines.specs.Lines.{empty_line}
 use Rattle.keeping.specs.Laid.{Laid}
-use Rattle.keeping.specs.Stays.{chunks_for}
 use Rattle.keeping.proofs.Placing.{laid_more, laid_all}
-use Rattle.keeping.proofs.Rounding.{rows_pos, row_inside, chunks_next}
+use Rattle.keeping.proofs.Rounding.{rows_pos, chunks_next}
 use Rattle.keeping.proofs.laying.lay.Goals as goal
-
-pub lay_line-requires : goal.lay_line-requires
-lay_line-requires g c =
-    let rows = g.S.ChunkStore.rows in
-    let pos = rows_pos rows g.S.ChunkStore.power in
-    let inv = c.loop-k.invariant in
-    let free = inv.0.free in
-    let inside = row_inside rows (length c.args.lines.now) c.loop-k.k pos c.loop-k-test.true in
-    let long = c.loop-k.chunks.ok.0 in
-    record { chunks = inv.1; out = λ h. (omega arith, inv.0.out _ (omega arith), mod_below c.loop-k.k rows pos); room = λ f. omega arith }
 
 pub loop-k-preserved : goal.loop-k-preserved
 loop-k-preserved g c =
@@ -36,8 +23,8 @@ loop-k-preserved g c =
     let after = c.lay_line.new.chunks.ok.0 in
     (more.0, omega arith, search rules)
 
-pub returns : goal.returns
-returns g c =
+pub returns-clause-rows : goal.returns-clause-rows
+returns-clause-rows g c =
     let ls = c.args.lines.now in
     let rows = g.S.ChunkStore.rows in
     let m = g.S.ChunkStore.model in
@@ -45,5 +32,4 @@ returns g c =
     let t = m c.loop-k.store in
     let cs = vec_items c.loop-k.chunks in
     let e : c.loop-k.k ≡ length ls = omega arith in
-    let laid = subst (λ n. Laid rows s ls n t cs) e c.loop-k.invariant.0 in
-    record { laid = laid; chunks = c.loop-k.invariant.1 ∙ ap (chunks_for rows) e; rows = laid_all rows s ls (length ls) t cs laid; stopped = grind (arith, nat_tests) }
+    laid_all rows s ls (length ls) t cs (subst (λ n. Laid rows s ls n t cs) e c.loop-k.invariant.0)
