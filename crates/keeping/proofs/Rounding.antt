@@ -1,7 +1,7 @@
 -- How many chunks lines need.
 use Rattle.std.proofs.Common.{◌≡◌, ℕ, ◌+◌, ◌*◌, ◌/◌, ◌%◌, ◌<◌, ◌≤◌, ap, ◌∙◌, ⊎_elim, add-mul, one-mul, arith, pow_pos}
 use Rattle.std.proofs.lemmas.Nat.{div-add-mod', div-mul-add, mod_below, mod-mul-add}
-use Rattle.std.proofs.lemmas.Bool.{cases_lt, cases_eq}
+use Rattle.std.proofs.lemmas.Bool.{cases_lt}
 use Rattle.stores.specs.Stores.{RowsPerChunk}
 use Rattle.keeping.specs.Stays.{chunks_for}
 
@@ -27,15 +27,3 @@ chunks_next rows n pos =
     (λ (k : r + 1 < rows). let p = parts (n + 1) q rows (r + 1) k (omega arith) in omega arith)
     (λ (k : rows ≤ r + 1). let p = parts (n + 1) (q + 1) rows 0 pos (let m = row_more q rows in omega arith) in omega arith)
     (cases_lt (r + 1) rows)
-
--- the chunks that lines need have room for them
-pub chunks_hold : (rows n : ℕ) → 0 < rows → n ≤ chunks_for rows n * rows
-chunks_hold rows n pos =
-    let q = n / rows in
-    let e = div-add-mod' n rows in
-    let h = mod_below n rows pos in
-    let m = row_more q rows in
-    ⊎_elim
-    (λ (z : n % rows ≡ 0). let c : chunks_for rows n ≡ q = omega arith in rw c (omega arith))
-    (λ (z : n % rows ≡ 0 → ⊥). let c : chunks_for rows n ≡ q + 1 = omega arith in rw c (omega arith))
-    (cases_eq (n % rows) 0)
