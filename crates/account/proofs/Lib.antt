@@ -1,2 +1,1 @@
--- The lemmas of `account`.
-pub mod Hexes
+-- `account` has no lemmas of its own.

@@ -1,5 +1,6 @@
 -- The text of an account.
-use Rattle.std.specs.Prelude.{◌≡◌, ℕ, ◌*◌, List, [], ◌∷◌, ◌++◌, vec_items, vec_len, box_value, codes, decimal, Box, slice_index}
+use Rattle.std.specs.Prelude.{◌≡◌, ℕ, ◌*◌, List, ◌++◌, vec_items, vec_len, box_value, codes, decimal, Box, slice_index}
+use Rattle.std.specs.List.{flat_map}
 use Rattle.std.specs.BTreeMap.{values, btree_map_len}
 use Rattle.lines.specs.declared.rows.Line.{Line}
 use Rattle.lines.specs.Packs.{packed}
@@ -29,11 +30,9 @@ packed_text l = codes "cluster " ++ (decimal l.cluster ++ (codes "\n  packed " +
 abbrev pub line_text : Line → List ℕ
 line_text l = packed_text l ++ (families_text l.cluster ++ codes "  unpacks to the same line\n")
 
-module _ {Y : Type 0} where
-  -- the lines, one after the other
-  abbrev pub lines_text : List (Box Line Y) → List ℕ
-  lines_text [] = []
-  lines_text (b ∷ bs) = line_text (box_value b) ++ lines_text bs
+-- the lines, one after the other
+abbrev pub lines_text : {Y : Type 0} → List (Box Line Y) → List ℕ
+lines_text bs = flat_map (λ b. line_text (box_value b)) bs
 
 -- a refused line of the list, with the refusal's number
 abbrev pub refusal_text : Refusal → List ℕ
@@ -41,8 +40,7 @@ refusal_text r = codes "line " ++ (decimal r.line ++ (codes " refused: " ++ (dec
 
 -- the refused lines, one after the other
 abbrev pub refusals_text : List Refusal → List ℕ
-refusals_text [] = []
-refusals_text (r ∷ rs) = refusal_text r ++ refusals_text rs
+refusals_text rs = flat_map refusal_text rs
 
 -- how many pages, lines, bytes and refusals
 abbrev pub totals_text : ℕ → ℕ → ℕ → List ℕ

@@ -1,21 +1,54 @@
-// What a family makes of a cluster.
-ghost use Rattle.std.specs.Prelude.{◌≡◌, IfOk, string_bytes};
-ghost use Rattle.account.specs.Accounts.{numbers_text};
+// What the families make of a cluster.
+ghost use Rattle.std.specs.Prelude.{Some};
+ghost use Rattle.account.specs.Accounts.{numbers_text, families_text};
 
-use families::Family;
-use std::alloc::{AllocError, Global};
+use families::{Digit, Family, Mix, Table};
+use std::fmt;
 
 // The numbers of a cluster in the three ways, under the family's name.
-pub(crate) fn numbers_account<F: Family>(
-    heap: Global,
-    name: &str,
-    family: &F,
+#[derive(Clone, Copy)]
+struct Numbers<'a, F> {
+    name: &'a str,
+    family: &'a F,
     cluster: u64,
-) -> Result<String, AllocError>
-    ensures { IfOk result (λ s. string_bytes s ≡ numbers_text name.now (λ w. F.Family.number family.now w cluster)) }
-{
-    let a = family.number_of(0, cluster);
-    let b = family.number_of(1, cluster);
-    let c = family.number_of(2, cluster);
-    format!(in heap; "  {name} {a} {b} {c}\n")
+}
+
+impl<F: Family> fmt::Display for Numbers<'_, F> {
+    ghost output = { λ n. Some (numbers_text n.name.now (λ w. F.Family.number n.family.now w n.cluster)) };
+
+    fn fmt<W: fmt::Write>(&self, f: &mut fmt::Formatter<W>) -> fmt::Result {
+        let name = self.name;
+        let a = self.family.number_of(0, self.cluster);
+        let b = self.family.number_of(1, self.cluster);
+        let c = self.family.number_of(2, self.cluster);
+        writeln!(f, "  {name} {a} {b} {c}")
+    }
+}
+
+// The numbers of a cluster in each family.
+#[derive(Clone, Copy)]
+pub(crate) struct Families(pub u64);
+
+impl fmt::Display for Families {
+    ghost output = { λ c. Some (families_text c.0) };
+
+    fn fmt<W: fmt::Write>(&self, f: &mut fmt::Formatter<W>) -> fmt::Result {
+        let cluster = self.0;
+        let digit = Numbers {
+            name: "digit ",
+            family: &Digit,
+            cluster,
+        };
+        let mix = Numbers {
+            name: "mix   ",
+            family: &Mix,
+            cluster,
+        };
+        let table = Numbers {
+            name: "table ",
+            family: &Table,
+            cluster,
+        };
+        write!(f, "{digit}{mix}{table}")
+    }
 }

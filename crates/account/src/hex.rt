@@ -1,35 +1,20 @@
 // Bytes in hexadecimal.
-ghost use Rattle.std.specs.Prelude.{◌≡◌, ◌<◌, [], ◌∷◌, ◌++◌, IfOk, string_bytes, OnOk};
-ghost use Rattle.account.specs.Hex.{digit_code, hex_of};
+ghost use Rattle.std.specs.Prelude.{Some};
+ghost use Rattle.account.specs.Hex.{hex_of};
 
-use std::alloc::{AllocError, Global};
-
-fn digit(n: u8) -> char
-    requires { n < 16 }
-    ensures { result ≡ digit_code n }
-{
-    if n < 10 {
-        (b'0' + n) as char
-    } else {
-        (b'a' + (n - 10)) as char
-    }
-}
-
-fn push_byte(text: &mut String, byte: u8) -> Result<(), AllocError>
-    ensures { OnOk result (string_bytes text.new ≡ string_bytes text.old ++ hex_of (byte ∷ [])) }
-{
-    text.push(digit(byte / 16))?;
-    text.push(digit(byte % 16))?;
-    Ok(())
-}
+use std::fmt;
 
 // Two digits to a byte, the first byte first.
-pub(crate) fn hex_text(heap: Global, bytes: &[u8]) -> Result<String, AllocError>
-    ensures { IfOk result (λ s. string_bytes s ≡ hex_of bytes.now) }
-{
-    let mut text = String::new(heap);
-    for byte in bytes {
-        push_byte(&mut text, *byte)?;
+#[derive(Clone, Copy)]
+pub(crate) struct Hex<'a>(pub &'a [u8]);
+
+impl fmt::Display for Hex<'_> {
+    ghost output = { λ h. Some (hex_of h.0.now) };
+
+    fn fmt<W: fmt::Write>(&self, f: &mut fmt::Formatter<W>) -> fmt::Result {
+        for &byte in self.0 {
+            write!(f, "{byte:02x}")?;
+        }
+        Ok(())
     }
-    Ok(text)
 }

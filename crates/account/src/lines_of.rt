@@ -1,60 +1,67 @@
 // The account of a line.
-ghost use Rattle.std.specs.Prelude.{◌≡◌, true, IfOk, string_bytes, codes};
+ghost use Rattle.std.specs.Prelude.{◌≡◌, true, Some};
 ghost use Rattle.lines.specs.Packs.{packed};
-ghost use Rattle.account.specs.Accounts.{families_text, packed_text, line_text};
+ghost use Rattle.account.specs.Accounts.{packed_text, line_text};
 
-use crate::families_of::numbers_account;
-use crate::hex::hex_text;
-use families::{Digit, Mix, Table};
+use crate::families_of::Families;
+use crate::hex::Hex;
 use lines::Line;
-use std::alloc::{AllocError, Global};
+use std::fmt;
 
-fn families_account(heap: Global, cluster: u64) -> Result<String, AllocError>
-    ensures { IfOk result (λ s. string_bytes s ≡ families_text cluster) }
-{
-    let digit = numbers_account(heap, "digit ", &Digit, cluster)?;
-    let mix = numbers_account(heap, "mix   ", &Mix, cluster)?;
-    let table = numbers_account(heap, "table ", &Table, cluster)?;
-    format!(in heap; "{digit}{mix}{table}")
+// A line beside its packed form.
+#[derive(Clone, Copy)]
+struct PackedLine<'a> {
+    line: &'a Line,
+    bytes: [u8; 64],
+    ghost packs: { bytes ≡ packed line.now },
 }
 
-// Unpacks the packed form of a line again: the answer is a theorem, and is printed as it comes.
-fn unpack_to(bytes: &[u8], line: &Line) -> bool
-    requires { bytes.now ≡ packed line.now }
-    ensures { result ≡ true }
-{
-    match Line::unpack(bytes) {
-        Ok(back) => back == *line,
-        Err(_) => false,
+impl<'a> PackedLine<'a> {
+    fn new(line: &'a Line) -> PackedLine<'a>
+        ensures { result.line.now ≡ line.now }
+    {
+        PackedLine {
+            line,
+            bytes: line.pack(),
+        }
+    }
+
+    // Unpacks the bytes again: the answer is a theorem, and is printed as it comes.
+    fn unpacks_to_same(&self) -> bool
+        ensures { result ≡ true }
+    {
+        match Line::unpack(&self.bytes) {
+            Ok(back) => back == *self.line,
+            Err(_) => false,
+        }
     }
 }
 
-fn unpacked_account(heap: Global, bytes: &[u8], line: &Line) -> Result<String, AllocError>
-    requires { bytes.now ≡ packed line.now }
-    ensures { IfOk result (λ s. string_bytes s ≡ codes "  unpacks to the same line\n") }
-{
-    if unpack_to(bytes, line) {
-        String::from_str(heap, "  unpacks to the same line\n")
-    } else {
-        String::from_str(heap, "  unpacks to another line\n")
+impl fmt::Display for PackedLine<'_> {
+    ghost output = { λ p. Some (packed_text p.line.now) };
+
+    fn fmt<W: fmt::Write>(&self, f: &mut fmt::Formatter<W>) -> fmt::Result {
+        let cluster = self.line.cluster;
+        let packed = Hex(&self.bytes);
+        writeln!(f, "cluster {cluster}\n  packed {packed}")
     }
 }
 
-fn packed_account(heap: Global, bytes: &[u8], line: &Line) -> Result<String, AllocError>
-    requires { bytes.now ≡ packed line.now }
-    ensures { IfOk result (λ s. string_bytes s ≡ packed_text line.now) }
-{
-    let cluster = line.cluster;
-    let packed = hex_text(heap, bytes)?;
-    format!(in heap; "cluster {cluster}\n  packed {packed}\n")
-}
+// A line's packed form, the numbers of its cluster, and what the packed form unpacks to.
+#[derive(Clone, Copy)]
+pub(crate) struct LineAccount<'a>(pub &'a Line);
 
-pub(crate) fn line_account(heap: Global, line: &Line) -> Result<String, AllocError>
-    ensures { IfOk result (λ s. string_bytes s ≡ line_text line.now) }
-{
-    let bytes = line.pack();
-    let packed = packed_account(heap, &bytes, line)?;
-    let numbers = families_account(heap, line.cluster)?;
-    let unpacked = unpacked_account(heap, &bytes, line)?;
-    format!(in heap; "{packed}{numbers}{unpacked}")
+impl fmt::Display for LineAccount<'_> {
+    ghost output = { λ l. Some (line_text l.0.now) };
+
+    fn fmt<W: fmt::Write>(&self, f: &mut fmt::Formatter<W>) -> fmt::Result {
+        let packed = PackedLine::new(self.0);
+        let numbers = Families(self.0.cluster);
+        let back = if packed.unpacks_to_same() {
+            "the same line"
+        } else {
+            "another line"
+        };
+        writeln!(f, "{packed}{numbers}  unpacks to {back}")
+    }
 }

@@ -1,0 +1,9 @@
+-- What has been written of the bytes so far.
+use Rattle.std.proofs.Common.{take}
+use Rattle.std.specs.Fmt.{HasWritten, IsPlainFormatter}
+use Rattle.account.specs.Hex.{hex_of}
+use Rattle.account.proofs.hex.HexDisplay.fmt.Given as goal
+
+abbrev pub invariant-loop-byte : goal.invariant-loop-byte
+invariant-loop-byte g l =
+    IsPlainFormatter l.fn.f → HasWritten g.W.Write.write_str_gives l.fn.f (hex_of (take l.byte-index l.self.0.now)) l.f
