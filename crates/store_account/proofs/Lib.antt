@@ -1,2 +1,1 @@
--- The lemmas of `store_account`.
-mod Answering
+-- `store_account` has no lemmas of its own.

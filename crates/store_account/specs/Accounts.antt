@@ -4,20 +4,14 @@ use Rattle.std.specs.BTreeMap as tree
 use Rattle.layout.specs.declared.sheets.Layout.{Layout}
 use Rattle.layout.specs.Sheets.{LaidOut}
 use Rattle.stores.specs.Chunks.{free_count}
-use Rattle.stores.specs.Refusals.{refusal, spare_refusal}
+use Rattle.stores.specs.Refusals.{refusal, refused_text, spare_refusal}
 use Rattle.keeping.specs.declared.stay.Stay.{Stay}
 use Rattle.keeping.specs.Stays.{chunks_for, rows_for, left_out_refusal, stop_refusal}
-
--- the values of a refusal: how many chunks were needed and how many are free, where it carries them
-abbrev pub values_text : List ℕ → List ℕ
-values_text [] = []
-values_text (needed ∷ []) = []
-values_text (needed ∷ free ∷ more) = codes ", needed " ++ (decimal needed ++ (codes ", free " ++ decimal free))
 
 -- an answer by what it refuses with: agreed where that is nothing
 unfoldable pub answer_text : List ℕ → List ℕ
 answer_text [] = codes "agreed"
-answer_text (number ∷ values) = codes "refused " ++ (decimal number ++ values_text values)
+answer_text (number ∷ values) = refused_text (number ∷ values)
 
 -- a store's chunks, their rows, and the bytes of all these rows
 unfoldable pub store_text : List ℕ → ℕ → ℕ → ℕ → List ℕ
@@ -28,10 +22,10 @@ store_text name chunks rows size =
 unfoldable pub asked_text : ℕ → List ℕ → List ℕ
 asked_text needed answer = codes "  asked for " ++ (decimal needed ++ (codes " chunks: " ++ (answer ++ codes "\n")))
 
--- how many chunks were taken, and the rows written
+-- how many chunks were taken, the rows written, and their bytes
 unfoldable pub written_text : ℕ → ℕ → ℕ → List ℕ
-written_text chunks rows size =
-    codes "  taken: " ++ (decimal chunks ++ (codes " chunks\n  written: " ++ (decimal rows ++ (codes " lines in " ++ (decimal rows ++ (codes " rows, " ++ (decimal (rows * size) ++ codes " bytes\n")))))))
+written_text chunks rows bytes =
+    codes "  taken: " ++ (decimal chunks ++ (codes " chunks\n  written: " ++ (decimal rows ++ (codes " lines in " ++ (decimal rows ++ (codes " rows, " ++ (decimal bytes ++ codes " bytes\n")))))))
 
 -- the text of what stopped the laying, and how many lines it left out
 abbrev pub stop_text : List ℕ → ℕ → List ℕ
@@ -40,7 +34,7 @@ stop_text answer left = codes "  stopped: " ++ (answer ++ (codes ", " ++ (decima
 -- what stopped the laying, by what it refused with; nothing where it was not stopped
 unfoldable pub stopped_text : List ℕ → ℕ → List ℕ
 stopped_text [] left = []
-stopped_text (number ∷ values) left = stop_text (answer_text (number ∷ values)) left
+stopped_text (number ∷ values) left = stop_text (refused_text (number ∷ values)) left
 
 -- how many rows read back the same, how many chunks were given back, and how many are free then
 unfoldable pub back_text : ℕ → ℕ → ℕ → List ℕ
@@ -51,14 +45,14 @@ back_text same chunks free =
 abbrev pub told_text : ℕ → ℕ → ℕ → ℕ → Stay → List ℕ
 told_text n rows size free stay =
     asked_text (chunks_for rows n) (answer_text (refusal stay.asked)) ++
-    (written_text stay.chunks stay.rows size ++
+    (written_text stay.chunks stay.rows (stay.rows * size) ++
     (stopped_text (stop_refusal stay.stopped) (n - stay.rows) ++ back_text stay.same stay.chunks free))
 
 -- the same where w of the n lines find a row, in a store with these marks
 abbrev pub room_text : ℕ → ℕ → ℕ → List Bool → ℕ → List ℕ
 room_text n rows size out w =
     asked_text (chunks_for rows n) (answer_text (spare_refusal out (chunks_for rows n))) ++
-    (written_text (chunks_for rows w) w size ++
+    (written_text (chunks_for rows w) w (w * size) ++
     (stopped_text (left_out_refusal w n) (n - w) ++ back_text w (chunks_for rows w) (free_count out)))
 
 -- a store of this name, and a stay of n lines in it: as many as find a row are written, and read back the same

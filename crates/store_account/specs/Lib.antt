@@ -1,2 +1,3 @@
 -- The definitions that the contracts cite of `store_account`.
 pub mod Accounts
+pub mod Told

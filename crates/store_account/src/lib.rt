@@ -2,8 +2,9 @@
 #![tactic(auto)]
 
 mod copies;
-mod parts;
+mod shape;
 mod stays;
+mod texts;
 mod whole;
 
 pub use whole::store_account;

@@ -3,7 +3,7 @@ ghost use Rattle.std.specs.Prelude.{IfOk, string_bytes};
 ghost use Rattle.store_account.specs.Accounts.{Accounted};
 
 use crate::copies::copy_lines;
-use crate::stays::{packed_account, record_account};
+use crate::stays::{packed_stay, record_stay};
 use layout::lay_out;
 use std::alloc::{AllocError, Global};
 
@@ -13,8 +13,7 @@ pub fn store_account(heap: Global, list: &[u8]) -> Result<String, AllocError>
 {
     let layout = lay_out(heap, list)?;
     let lines = copy_lines(heap, &layout)?;
-    let packed = packed_account(heap, lines.as_slice())?;
-    let record = record_account(heap, lines.as_slice())?;
-    let text = format!(in heap; "{packed}{record}")?;
-    Ok(text)
+    let packed = packed_stay(heap, lines.as_slice())?;
+    let record = record_stay(heap, lines.as_slice())?;
+    format!(in heap; "{packed}{record}")
 }

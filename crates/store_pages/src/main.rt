@@ -3,15 +3,13 @@
 
 use std::io::Read;
 
-fn run(rt: &HostRuntime) -> anyhow::Result<()> {
+// `lay_pages` does the same with another account. A function for both would take the account as a closure and ask that it may be
+// called, and no public function here asks anything of its callers.
+fn main(rt: HostRuntime) -> anyhow::Result<()> {
     let heap = rt.alloc();
     let mut list = Vec::new(heap);
     rt.stdin().read_to_end(&mut list)?;
     let text = store_account::store_account(heap, list.as_slice())?;
     rt.print(text)?;
     Ok(())
-}
-
-fn main(rt: HostRuntime) -> anyhow::Result<()> {
-    run(&rt)
 }
