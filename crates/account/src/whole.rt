@@ -1,25 +1,11 @@
 // The account of a whole layout.
 ghost use Rattle.std.specs.Prelude.{Some, IfOk, string_bytes};
-ghost use Rattle.account.specs.Accounts.{refusal_text, totals_text, layout_text, Accounted};
+ghost use Rattle.account.specs.Accounts.{totals_text, layout_text, Accounted};
 
 use crate::lines_of::LineAccount;
-use layout::{Layout, Refusal, lay_out};
+use layout::{Layout, lay_out};
 use std::alloc::{AllocError, Global};
 use std::fmt;
-
-// A refused line of the list.
-#[derive(Clone, Copy)]
-struct RefusalAccount<'a>(&'a Refusal);
-
-impl fmt::Display for RefusalAccount<'_> {
-    ghost output = { λ r. Some (refusal_text r.0.now) };
-
-    fn fmt<W: fmt::Write>(&self, f: &mut fmt::Formatter<W>) -> fmt::Result {
-        let line = self.0.line;
-        let number = self.0.fault.number();
-        writeln!(f, "line {line} refused: {number}")
-    }
-}
 
 #[derive(Clone, Copy)]
 struct Totals {
@@ -58,7 +44,7 @@ impl fmt::Display for LayoutAccount<'_> {
             write!(f, "{}", LineAccount(line))?;
         }
         for refusal in &layout.refused {
-            write!(f, "{}", RefusalAccount(refusal))?;
+            writeln!(f, "{refusal}")?;
         }
         let totals = Totals {
             pages: layout.pages,

@@ -11,7 +11,7 @@ loop-line-init g c p = ([], search rules, search rules)
 pub loop-line-preserved : goal.loop-line-preserved
 loop-line-preserved g c p =
     let so_far = c.loop-line.invariant p in
-    let line = line_text c.deref.result.now in
+    let line = line_text c.in-Some.line.now in
     (so_far.0 ++ line, has_written_append _ _ _ _ _ _ so_far.1 (search rules), append_assoc so_far.0 line _ ∙ search rules)
 
 pub loop-refusal-preserved : goal.loop-refusal-preserved
