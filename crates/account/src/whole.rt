@@ -7,6 +7,7 @@ use layout::{Layout, lay_out};
 use std::alloc::{AllocError, Global};
 use std::fmt;
 
+// How many pages and lines a layout has, and how many refused lines.
 #[derive(Clone, Copy)]
 struct Totals {
     pages: u64,

@@ -1,1 +1,0 @@
--- `account` has no lemmas of its own.
