@@ -1,6 +1,7 @@
 // The printed account of a list's lines in a packed store and in a record store.
 #![tactic(auto)]
 
+mod copies;
 mod shape;
 mod stays;
 mod texts;

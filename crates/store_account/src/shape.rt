@@ -1,8 +1,6 @@
 // What a store's chunks are made of.
 ghost use Rattle.std.specs.Prelude.{◌≡◌, ◌*◌, ◌<◌, ◌≤◌};
 
-use stores::ChunkStore;
-
 // How many rows a chunk has, and how many bytes a row.
 #[derive(Clone, Copy)]
 pub(crate) struct Shape {
@@ -13,16 +11,6 @@ pub(crate) struct Shape {
 }
 
 impl Shape {
-    pub(crate) fn of<S: ChunkStore>(row_bytes: u8) -> Shape
-        ensures rows { result.rows ≡ S.ChunkStore.rows }
-        ensures bytes { result.row_bytes ≡ row_bytes }
-    {
-        Shape {
-            rows: S::rows_per_chunk(),
-            row_bytes,
-        }
-    }
-
     // how many bytes so many rows have
     pub(crate) fn bytes_of_rows(self, rows: usize) -> u128
         ensures { result ≡ rows * self.row_bytes }

@@ -1,29 +1,42 @@
-// A stay of lines in each of the two stores.
-ghost use Rattle.std.specs.Prelude.{◌≡◌, length, IfOk, Some};
-ghost use Rattle.store_account.specs.Accounts.{stay_text, packed_text, record_text};
+// A stay of lines in a store of either make.
+ghost use Rattle.std.specs.Prelude.{◌≡◌, ◌*◌, false, length, replicate, IfOk, Some};
+ghost use Rattle.stores.specs.Views.{chunks_in};
+ghost use Rattle.store_account.specs.Accounts.{stay_text};
 ghost use Rattle.store_account.specs.Told.{account_text};
 
 use crate::shape::Shape;
 use crate::texts::{StayText, StoreText};
 use keeping::keep;
+use lent_store::{LentStore, RowForm};
 use lines::Line;
-use packed_store::PackedStore;
-use record_store::RecordStore;
 use std::alloc::{AllocError, Global};
 use std::fmt;
 use stores::ChunkStore;
 
-const BYTES: usize = 20_000;
+// A make of store, by its name, how many bytes a row has, and the memory that it is put on: so many cells, each of which held something else.
+#[derive(Clone, Copy)]
+pub(crate) struct Make<C> {
+    name: &'static str,
+    row_bytes: u8,
+    old: C,
+    cells: usize,
+}
 
-const OLD_BYTE: u8 = 0xA5;
+// Two chunks, and a rest that is no chunk.
+pub(crate) const PACKED: Make<u8> = Make {
+    name: "packed",
+    row_bytes: 64,
+    old: 0xA5,
+    cells: 20_000,
+};
 
-const LINE_BYTES: u8 = 64;
-
-const RECORDS: usize = 35;
-
-const OLD_NUMBER: u64 = 0xA5A5_A5A5_A5A5_A5A5;
-
-const RECORD_BYTES: u8 = 72;
+// Eight chunks, and three records that are in none.
+pub(crate) const RECORD: Make<[u64; 9]> = Make {
+    name: "record",
+    row_bytes: 72,
+    old: [0xA5A5_A5A5_A5A5_A5A5; 9],
+    cells: 35,
+};
 
 // A store, and what is told of a stay of lines in it.
 #[derive(Drop)]
@@ -42,22 +55,25 @@ impl fmt::Display for StayAccount {
     }
 }
 
-fn stay_in<S: ChunkStore>(
+// A stay of the lines in a store of the make, with all chunks free.
+pub(crate) fn stay_on<F: RowForm>(
     heap: Global,
-    name: &'static str,
-    row_bytes: u8,
-    store: &mut S,
+    make: Make<F::Cell>,
     lines: &[Line],
 ) -> Result<StayAccount, AllocError>
-    ensures { IfOk result (λ a. account_text a ≡ stay_text name.now row_bytes S.ChunkStore.rows (S.ChunkStore.model store.old).out (length lines.now)) }
+    ensures { IfOk result (λ a. account_text a ≡ stay_text make.name.now make.row_bytes F.ROWS (replicate (chunks_in (F.ROWS * F.CELLS) make.cells) false) (length lines.now)) }
 {
-    let stay = keep(heap, store, lines)?;
-    let shape = Shape::of::<S>(row_bytes);
-    let chunks = store.count();
+    let mut memory = vec![in heap; make.old; make.cells]?;
+    let mut store = LentStore::<F>::new(memory.as_mut_slice());
+    let stay = keep(heap, &mut store, lines)?;
+    let shape = Shape {
+        rows: F::ROWS,
+        row_bytes: make.row_bytes,
+    };
     Ok(StayAccount {
         store: StoreText {
-            name,
-            chunks,
+            name: make.name,
+            chunks: store.count(),
             shape,
         },
         told: StayText {
@@ -67,22 +83,4 @@ fn stay_in<S: ChunkStore>(
             stay,
         },
     })
-}
-
-// A packed store on bytes that held something else: two chunks, and a rest that is no chunk.
-pub(crate) fn packed_stay(heap: Global, lines: &[Line]) -> Result<StayAccount, AllocError>
-    ensures { IfOk result (λ a. account_text a ≡ packed_text (length lines.now)) }
-{
-    let mut bytes = vec![in heap; OLD_BYTE; BYTES]?;
-    let mut store = PackedStore::new(bytes.as_mut_slice());
-    stay_in(heap, "packed", LINE_BYTES, &mut store, lines)
-}
-
-// A record store on records that held something else: eight chunks, and three records that are in none.
-pub(crate) fn record_stay(heap: Global, lines: &[Line]) -> Result<StayAccount, AllocError>
-    ensures { IfOk result (λ a. account_text a ≡ record_text (length lines.now)) }
-{
-    let mut records = vec![in heap; [OLD_NUMBER; 9]; RECORDS]?;
-    let mut store = RecordStore::new(records.as_mut_slice());
-    stay_in(heap, "record", RECORD_BYTES, &mut store, lines)
 }

@@ -1,1 +1,0 @@
--- `store_account` has no lemmas of its own.
