@@ -2,26 +2,19 @@
 ghost use Rattle.std.specs.Prelude.{◌≡◌, ℕ, ◌*◌, ◌<◌, ◌≤◌, List, length, replicate, if◌then◌else◌, ◌==◌};
 ghost use Rattle.lines.specs.declared.rows.Line.{Line as TheLine};
 ghost use Rattle.lines.specs.Lines.{empty_line};
-ghost use Rattle.stores.specs.Stores.{RowsPerChunk};
 
 use lines::Line;
+use stores::ChunkShape;
 
 // A row is so many cells of memory, and a chunk so many rows.
-pub trait RowForm {
+pub trait RowForm: ChunkShape {
     // what memory is made of
     type Cell: Copy;
 
     // how many cells a row has
     const CELLS: usize;
 
-    // how many rows a chunk has
-    const ROWS: usize;
-
     ghost CELLS: { ℕ };
-
-    ghost ROWS: { ℕ };
-
-    ghost rows_power: { RowsPerChunk ROWS };
 
     // the cell that clearing leaves
     ghost blank: { Self.Cell };
@@ -44,10 +37,10 @@ pub trait RowForm {
         ensures { cells.new ≡ replicate (length cells.old) blank };
 
     // a chunk has some cells
-    ghost some: { 0 < ROWS * CELLS };
+    ghost some: { 0 < Self.ROWS * CELLS };
 
     // so few that the cells of 256 chunks can be counted
-    ghost few: { ROWS * CELLS ≤ 8192 };
+    ghost few: { Self.ROWS * CELLS ≤ 8192 };
 
     // a line takes one row
     ghost row_size: { (l : TheLine) → length (row_of l) ≡ CELLS };

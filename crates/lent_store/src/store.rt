@@ -1,5 +1,5 @@
 // A store on lent memory and its calls.
-ghost use Rattle.std.specs.Prelude.{◌≡◌, ◌*◌, false, length, replicate, is_ok, if◌then◌else◌, MatchResult};
+ghost use Rattle.std.specs.Prelude.{refl, ◌≡◌, ◌*◌, false, length, replicate, is_ok, if◌then◌else◌, MatchResult};
 
 use crate::form::RowForm;
 use crate::rows::{clear_chunk, line_at, put_at};
@@ -55,28 +55,23 @@ impl<'a, F: RowForm> ChunkStore for LentStore<'a, F> {
     ghost use Rattle.stores.specs.Chunks.{Free};
     ghost use Rattle.stores.specs.Choices.{MarksTook, marks_given};
     ghost use Rattle.stores.specs.Refusals.{refusal, take_refusal, give_back_refusal, row_refusal};
-    ghost use Rattle.stores.specs.Stores.{RowsPerChunk, taken, given_back, written};
+    ghost use Rattle.stores.specs.Stores.{taken, given_back, written};
     ghost use Rattle.stores.specs.Views.{out_of};
     ghost use Rattle.lent_store.specs.Memory.{beyond_chunks, chunk_count, chunk_cleared, line_at, row_replaced};
     ghost use Rattle.lent_store.specs.Lent.{shown};
     ghost use Rattle.stores.proofs.Viewing.{view_bounded};
 
-    const ROWS: usize = F::ROWS;
+    type Shape = F;
 
     ghost model = { shown F.ROWS F.CELLS F.line_of };
 
     ghost rows = { F.ROWS };
 
-    ghost power = { F.rows_power };
+    ghost power = { F.power };
+
+    ghost shaped = { refl };
 
     ghost bounded = { λ s. view_bounded F.ROWS (out_of (chunk_count F.ROWS F.CELLS s.mem.now) s.marks) (line_at F.CELLS F.line_of s.mem.now) };
-
-    fn rows_per_chunk() -> usize
-        ensures value { result ≡ F.ROWS }
-        ensures power { RowsPerChunk result }
-    {
-        F::ROWS
-    }
 
     // the memory's length div that of a chunk, at most 256
     fn count(&self) -> usize

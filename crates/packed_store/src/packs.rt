@@ -10,23 +10,26 @@ ghost use Rattle.packed_store.specs.Packed.{line_bytes, rows_per_chunk, rows_pow
 
 use lent_store::{LentStore, RowForm};
 use lines::Line;
+use stores::ChunkShape;
 
 // A row is a packed line of 64 bytes.
 #[derive(Clone, Copy, Debug)]
 pub struct Packs;
+
+impl ChunkShape for Packs {
+    const ROWS: usize = 128;
+
+    ghost ROWS = { rows_per_chunk };
+
+    ghost power = { rows_power };
+}
 
 impl RowForm for Packs {
     type Cell = u8;
 
     const CELLS: usize = 64;
 
-    const ROWS: usize = 128;
-
     ghost CELLS = { line_bytes };
-
-    ghost ROWS = { rows_per_chunk };
-
-    ghost rows_power = { rows_power };
 
     ghost blank = { 0 };
 

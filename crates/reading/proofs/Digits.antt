@@ -1,7 +1,7 @@
 -- The value of digits, one digit after the other.
 use Rattle.std.proofs.Common.{◌≡◌, ℕ, zero, suc, ◌+◌, ◌-◌, ◌*◌, ◌^◌, ◌<◌, ◌≤◌, Bool, true, false, cond, leb, List, [], ◌∷◌, ◌++◌, length, get_or, take, Some, None, sym, refl, ap, ◌∙◌, mul_assoc, pow-suc, add-one, arith, rules}
-use Rattle.std.proofs.lemmas.List.{length_push, length-take-le, take_more, take_all}
-use Rattle.std.proofs.lemmas.Bool.{and_left, and_right, and_parts, and_from, le-leb, leb-true, cond-true, cond-false}
+use Rattle.std.proofs.lemmas.List.{length_push, length-take-le, take_more}
+use Rattle.std.proofs.lemmas.Bool.{and_left, and_right, and_parts, and_from, leb-true, cond-false}
 use Rattle.std.proofs.lemmas.Str.Parse.{IsNumeralModel, numerals_by_weight, digits_value_short}
 use Rattle.reading.specs.Numbers.{is_digit, digit_of, all_digits, value_of, is_number, number_of}
 
@@ -56,12 +56,6 @@ read_more {field} {i} {value} r d h e =
       digits = ap all_digits m ∙ digits_push (take i field) (get_or field i 0) r.digits s.0;
       reads = omega (arith, r.reads, s.1, ap value_of m, value_push (take i field) (get_or field i 0));
     }
-
-pub read_all : {field : List ℕ} {i value : ℕ} → ReadTo field i value → length field ≤ i → 0 < length field → length field ≤ 15 → Some value ≡ number_of field
-read_all {field} {i} {value} r h some short =
-    let all = take_all i field h in
-    let good : is_number field ≡ true = and_from _ _ (and_from _ _ (le-leb 1 (length field) some) (le-leb (length field) 15 short)) (ap all_digits (sym all) ∙ r.digits) in
-    ap Some (r.reads ∙ ap value_of all) ∙ sym (cond-true (is_number field) _ _ good)
 
 pub read_none : (field : List ℕ) (i : ℕ) → i < length field → digit_of (get_or field i 0) ≡ None → number_of field ≡ None
 read_none field i h e =

@@ -8,6 +8,7 @@ ghost use Rattle.record_store.specs.Records.{blank_record, records_per_row, rows
 
 use lent_store::{LentStore, RowForm};
 use lines::Line;
+use stores::ChunkShape;
 
 // A record is a line's cluster, then the words of its eight entries.
 fn record_of(line: &Line) -> [u64; 9]
@@ -31,18 +32,20 @@ fn recorded_line(numbers: &[u64; 9]) -> Line
 #[derive(Clone, Copy, Debug)]
 pub struct Records;
 
+impl ChunkShape for Records {
+    const ROWS: usize = 4;
+
+    ghost ROWS = { rows_per_chunk };
+
+    ghost power = { rows_power };
+}
+
 impl RowForm for Records {
     type Cell = [u64; 9];
 
     const CELLS: usize = 1;
 
-    const ROWS: usize = 4;
-
     ghost CELLS = { records_per_row };
-
-    ghost ROWS = { rows_per_chunk };
-
-    ghost rows_power = { rows_power };
 
     ghost blank = { blank_record };
 

@@ -1,5 +1,5 @@
 -- Whether a chunk is free, by the marks.
-use Rattle.std.proofs.Common.{◌≡◌, ℕ, ◌+◌, ◌<◌, ◌≤◌, min, Bool, true, false, cond, not, List, [], ◌∷◌, length, take, drop, take_all, position, Some, None, sym, refl, ap, ◌∙◌, ⊎_elim, arith, length-drop}
+use Rattle.std.proofs.Common.{◌≡◌, ℕ, ◌+◌, ◌<◌, ◌≤◌, Bool, true, false, cond, not, List, [], ◌∷◌, length, drop, position, Some, None, sym, refl, ap, ◌∙◌, ⊎_elim, arith, length-drop}
 use Rattle.std.specs.List.{prefix_len}
 use Rattle.std.proofs.lemmas.List.{get_or-drop}
 use Rattle.std.proofs.lemmas.List.Sums.{sum_by-cons, get_or-le-sum_by, prefix_len_stops}
@@ -44,10 +44,3 @@ some_first out from k e =
     (ap (λ n. from + n) same, (omega (arith, length-drop from out), ap (λ n. is_out out (from + n)) same ∙ stop)))
     (λ (h : length (drop from out) ≤ p). absurd (let t = le-ltb p _ h in let f = rw (twice (drop from out), t) at e in cc))
     (cases_lt p (length (drop from out)))
-
--- there are no marks past the last
-pub take_most : {X : Type 0} (xs : List X) (n most k : ℕ) → length xs ≡ most → k ≡ min n most → take k xs ≡ take n xs
-take_most xs n most k long e = ⊎_elim
-    (λ (h : n < most). ap (λ i. take i xs) (omega arith))
-    (λ (h : most ≤ n). take_all k xs (omega arith) ∙ sym (take_all n xs (omega arith)))
-    (cases_lt n most)

@@ -8,4 +8,4 @@ pub mod store;
 
 pub use faults::StoreFault;
 pub use marks::{MOST_CHUNKS, Marks};
-pub use store::{ChunkStore, RowIndex};
+pub use store::{ChunkShape, ChunkStore, RowIndex};

@@ -14,25 +14,29 @@ pub struct RowIndex {
     pub row: usize,
 }
 
+// How many rows a chunk has: a constant of each make.
+pub trait ChunkShape {
+    const ROWS: usize;
+
+    ghost ROWS: { ℕ };
+
+    ghost power: { RowsPerChunk ROWS };
+}
+
 // A chunk is a run of memory for so many rows, each of which holds one line. It is free, or out: handed to whoever took it.
 // Every call answers on any input. A refused call changes nothing, of the store itself and not only of what it holds.
 pub trait ChunkStore {
-    // how many rows a chunk has
-    const ROWS: usize;
+    type Shape: ChunkShape;
 
     // what the store holds
     ghost model: { Self → Store };
 
-    // how many rows a chunk has, for clauses
+    // how many rows a chunk has
     ghost rows: { ℕ };
 
     ghost power: { RowsPerChunk rows };
 
     ghost bounded: { (s : Self) → Bounded rows (model s) };
-
-    fn rows_per_chunk() -> usize
-        ensures value { result ≡ rows }
-        ensures power { RowsPerChunk result };
 
     // how many chunks there are
     fn count(&self) -> usize
@@ -68,4 +72,13 @@ pub trait ChunkStore {
         ensures said { refusal result ≡ row_refusal rows (model self.old).out at.chunk at.row }
         ensures after { model self.new ≡ (if is_ok result then written (model self.old) at.chunk at.row line.now else model self.old) }
         ensures refused { is_ok result ≡ false → self.new ≡ self.old };
+
+    ghost shaped: { rows ≡ Self.Shape.ROWS };
+
+    final fn rows_per_chunk() -> usize
+        ensures value { result ≡ rows }
+        ensures power { RowsPerChunk result }
+    {
+        Self::Shape::ROWS
+    }
 }

@@ -88,7 +88,7 @@ pub(crate) fn writes_rows<S: ChunkStore>(
     rows: usize,
 ) -> Result<(), Fail> {
     assert_eq!(rt; S::rows_per_chunk(), rows);
-    assert_eq!(rt; S::ROWS, rows);
+    assert_eq!(rt; S::Shape::ROWS, rows);
     expect(rt, store, &[(Call::Take, Ok(0)), (Call::Take, Ok(1))])?;
     for chunk in 0..2 {
         for row in 0..rows {

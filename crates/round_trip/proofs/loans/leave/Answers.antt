@@ -12,4 +12,4 @@ returns-in_err-write-clause-memory g c =
     let f = g.F.RowForm in
     let k = c.in_ok-chunk.chunk in
     let took = c.in_ok-chunk.ensures.after in
-    absurd (something_told _ (c.in_err-write.ensures.said ∙ ap (λ t. row_refusal f.ROWS t.out k 0) took.1 ∙ first_row f.ROWS (out_of (chunk_count f.ROWS f.CELLS c.args.store.now.mem.now) c.args.store.now.marks) k f.rows_power took.0))
+    absurd (something_told _ (c.in_err-write.ensures.said ∙ ap (λ t. row_refusal g.F.ChunkShape.ROWS t.out k 0) took.1 ∙ first_row g.F.ChunkShape.ROWS (out_of (chunk_count g.F.ChunkShape.ROWS f.CELLS c.args.store.now.mem.now) c.args.store.now.marks) k g.F.ChunkShape.power took.0))

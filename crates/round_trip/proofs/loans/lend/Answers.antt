@@ -11,4 +11,4 @@ returns-clause-memory g c =
     let made = c.new-store.ensures in
     let mem = c.args.mem.now in
     ◌∙◌ {b = c.leave.new.store.mem.now} (search rules)
-    (c.leave.ensures.memory ∙ fresh (λ free k m. memory_after f.ROWS f.CELLS f.blank free k m (f.row_of c.args.line.now)) _ _ (chunk_count f.ROWS f.CELLS mem) _ mem (ap (λ s. s.out) made.model) made.marks.1 made.memory)
+    (c.leave.ensures.memory ∙ fresh (λ free k m. memory_after g.F.ChunkShape.ROWS f.CELLS f.blank free k m (f.row_of c.args.line.now)) _ _ (chunk_count g.F.ChunkShape.ROWS f.CELLS mem) _ mem (ap (λ s. s.out) made.model) made.marks.1 made.memory)

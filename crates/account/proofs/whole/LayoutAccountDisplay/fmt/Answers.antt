@@ -1,7 +1,6 @@
 -- What the search leaves to show of the two loops.
-use Rattle.std.proofs.Common.{[], ◌++◌, ◌∙◌, append_assoc, arith, rules}
+use Rattle.std.proofs.Common.{[], ◌++◌, ◌∙◌, append_assoc, rules}
 use Rattle.std.proofs.Output.{has_written_append}
-use Rattle.std.proofs.lemmas.Grind.{common_steps}
 use Rattle.account.specs.Accounts.{line_text}
 use Rattle.account.proofs.whole.LayoutAccountDisplay.fmt.Goals as goal
 
@@ -13,6 +12,3 @@ loop-line-preserved g c p =
     let so_far = c.loop-line.invariant p in
     let line = line_text c.in-Some.line.now in
     (so_far.0 ++ line, has_written_append _ _ _ _ _ _ so_far.1 (search rules), append_assoc so_far.0 line _ ∙ search rules)
-
-pub loop-refusal-preserved : goal.loop-refusal-preserved
-loop-refusal-preserved g c = grind (arith, common_steps)

@@ -9,5 +9,5 @@ use Rattle.lent_store.proofs.store.LentStore.new.Goals as goal
 pub returns-clause-model : goal.returns-clause-model
 returns-clause-model g c =
     let f = g.F.RowForm in
-    let n = chunk_count f.ROWS f.CELLS c.args.mem.now in
-    view_new f.ROWS n (out_of n c.new.result) (line_at f.CELLS f.line_of c.args.mem.now) (out_new n c.new.result c.new.ensures.out (omega arith))
+    let n = chunk_count g.F.ChunkShape.ROWS f.CELLS c.args.mem.now in
+    view_new g.F.ChunkShape.ROWS n (out_of n c.new.result) (line_at f.CELLS f.line_of c.args.mem.now) (out_new n c.new.result c.new.ensures.out (omega arith))

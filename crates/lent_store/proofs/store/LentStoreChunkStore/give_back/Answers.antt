@@ -1,5 +1,5 @@
 -- What the search leaves to show of `give_back`.
-use Rattle.std.proofs.Common.{is_ok, ap, ◌∙◌, ap₂}
+use Rattle.std.proofs.Common.{is_ok, ap, ◌∙◌}
 use Rattle.stores.specs.Views.{out_of, view}
 use Rattle.stores.proofs.Meaning.{view_marks_given}
 use Rattle.lent_store.specs.Memory.{chunk_count, line_at}
@@ -10,8 +10,5 @@ returns-clause-after g c =
     let f = g.F.RowForm in
     let s = c.args.self.now in
     let did = c.free_chunk.ensures in
-    ap (λ mem. view f.ROWS (out_of (chunk_count f.ROWS f.CELLS mem.now) c.free_chunk.new.self.marks) (line_at f.CELLS f.line_of mem.now)) did.memory
-    ∙ view_marks_given f.ROWS (chunk_count f.ROWS f.CELLS s.mem.now) (line_at f.CELLS f.line_of s.mem.now) s.marks _ c.args.chunk (is_ok c.free_chunk.result) did.marks
-
-pub returns-clause-refused : goal.returns-clause-refused
-returns-clause-refused g c = λ e. ap₂ (λ mem marks. record { mem = mem; marks = marks }) c.free_chunk.ensures.memory (rw e at c.free_chunk.ensures.marks)
+    ap (λ mem. view g.F.ChunkShape.ROWS (out_of (chunk_count g.F.ChunkShape.ROWS f.CELLS mem.now) c.free_chunk.new.self.marks) (line_at f.CELLS f.line_of mem.now)) did.memory
+    ∙ view_marks_given g.F.ChunkShape.ROWS (chunk_count g.F.ChunkShape.ROWS f.CELLS s.mem.now) (line_at f.CELLS f.line_of s.mem.now) s.marks _ c.args.chunk (is_ok c.free_chunk.result) did.marks

@@ -12,15 +12,15 @@ returns-clause-after g c =
     let s = c.args.self.now in
     let k = c.in_ok-chunk.chunk in
     let did = rw c.chunks-n.ensures at c.in_ok-chunk.ensures.after in
-    let fits = chunk_fits (f.ROWS * f.CELLS) (length s.mem.now) (chunk_count f.ROWS f.CELLS s.mem.now) k refl (rw c.chunks-n.ensures at c.in_ok-chunk.ensures.below) in (
+    let fits = chunk_fits (g.F.ChunkShape.ROWS * f.CELLS) (length s.mem.now) (chunk_count g.F.ChunkShape.ROWS f.CELLS s.mem.now) k refl (rw c.chunks-n.ensures at c.in_ok-chunk.ensures.below) in (
       did.0,
-      ap₂ (λ m mem. view f.ROWS (out_of (chunk_count f.ROWS f.CELLS mem) m) (line_at f.CELLS f.line_of mem)) did.2 c.clear_chunk.ensures
-          ∙ shown_taken f.ROWS f.CELLS f.line_of f.blank s.marks s.mem.now k g.met.F.RowForm.blank_row fits,
+      ap₂ (λ m mem. view g.F.ChunkShape.ROWS (out_of (chunk_count g.F.ChunkShape.ROWS f.CELLS mem) m) (line_at f.CELLS f.line_of mem)) did.2 c.clear_chunk.ensures
+          ∙ shown_taken g.F.ChunkShape.ROWS f.CELLS f.line_of f.blank s.marks s.mem.now k g.met.F.RowForm.blank_row fits,
     )
 
 pub returns-clause-beyond : goal.returns-clause-beyond
 returns-clause-beyond g c =
     let f = g.F.RowForm in
     let s = c.args.self.now in
-    ap (beyond_chunks f.ROWS f.CELLS) c.clear_chunk.ensures
-    ∙ beyond_cleared f.ROWS f.CELLS f.blank s.mem.now c.in_ok-chunk.chunk (rw c.chunks-n.ensures at c.in_ok-chunk.ensures.below)
+    ap (beyond_chunks g.F.ChunkShape.ROWS f.CELLS) c.clear_chunk.ensures
+    ∙ beyond_cleared g.F.ChunkShape.ROWS f.CELLS f.blank s.mem.now c.in_ok-chunk.chunk (rw c.chunks-n.ensures at c.in_ok-chunk.ensures.below)

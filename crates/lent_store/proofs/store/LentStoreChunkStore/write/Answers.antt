@@ -14,12 +14,12 @@ returns-clause-after g c =
     let s = c.args.self.now in
     let at = c.args.at in
     let l = c.args.line.now in
-    let n = chunk_count f.ROWS f.CELLS s.mem.now in
-    let met = row_accepted f.ROWS (out_of n s.marks) at.chunk at.row (sym (rw (c.ROWS.ensures, c.chunks-n.ensures) at c.in_ok-reach.ensures.said)) in
+    let n = chunk_count g.F.ChunkShape.ROWS f.CELLS s.mem.now in
+    let met = row_accepted g.F.ChunkShape.ROWS (out_of n s.marks) at.chunk at.row (sym (rw (c.ROWS.ensures, c.chunks-n.ensures) at c.in_ok-reach.ensures.said)) in
     let below = (rw c.chunks-n.ensures at (c.in_ok-reach.ensures.within refl)).0 in
-    let fits = row_fits f.ROWS f.CELLS (length s.mem.now) n at.chunk at.row refl below met.1 in
-    ap (λ mem. view f.ROWS (out_of (chunk_count f.ROWS f.CELLS mem) s.marks) (line_at f.CELLS f.line_of mem)) (rw c.ROWS-2.ensures at c.put_at.ensures)
-    ∙ shown_written f.ROWS f.CELLS f.line_of (f.row_of l) l s.marks s.mem.now at.chunk at.row (laws.row_size l) (laws.line_back l) met.0 met.1 fits
+    let fits = row_fits g.F.ChunkShape.ROWS f.CELLS (length s.mem.now) n at.chunk at.row refl below met.1 in
+    ap (λ mem. view g.F.ChunkShape.ROWS (out_of (chunk_count g.F.ChunkShape.ROWS f.CELLS mem) s.marks) (line_at f.CELLS f.line_of mem)) (rw c.ROWS-2.ensures at c.put_at.ensures)
+    ∙ shown_written g.F.ChunkShape.ROWS f.CELLS f.line_of (f.row_of l) l s.marks s.mem.now at.chunk at.row (laws.row_size l) (laws.line_back l) met.0 met.1 fits
 
 pub returns-clause-beyond : goal.returns-clause-beyond
 returns-clause-beyond g c =
@@ -27,7 +27,7 @@ returns-clause-beyond g c =
     let s = c.args.self.now in
     let at = c.args.at in
     let l = c.args.line.now in
-    let n = chunk_count f.ROWS f.CELLS s.mem.now in
-    let met = row_accepted f.ROWS (out_of n s.marks) at.chunk at.row (sym (rw (c.ROWS.ensures, c.chunks-n.ensures) at c.in_ok-reach.ensures.said)) in
-    ap (beyond_chunks f.ROWS f.CELLS) (rw c.ROWS-2.ensures at c.put_at.ensures)
-    ∙ beyond_replaced f.ROWS f.CELLS (f.row_of l) s.mem.now at.chunk at.row (g.met.F.RowForm.row_size l) (rw c.chunks-n.ensures at (c.in_ok-reach.ensures.within refl)).0 met.1
+    let n = chunk_count g.F.ChunkShape.ROWS f.CELLS s.mem.now in
+    let met = row_accepted g.F.ChunkShape.ROWS (out_of n s.marks) at.chunk at.row (sym (rw (c.ROWS.ensures, c.chunks-n.ensures) at c.in_ok-reach.ensures.said)) in
+    ap (beyond_chunks g.F.ChunkShape.ROWS f.CELLS) (rw c.ROWS-2.ensures at c.put_at.ensures)
+    ∙ beyond_replaced g.F.ChunkShape.ROWS f.CELLS (f.row_of l) s.mem.now at.chunk at.row (g.met.F.RowForm.row_size l) (rw c.chunks-n.ensures at (c.in_ok-reach.ensures.within refl)).0 met.1
