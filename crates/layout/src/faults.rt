@@ -24,6 +24,7 @@ impl From<LineFault> for ListFault {
 }
 
 impl ListFault {
+    // the number by which the rules name it
     pub fn number(self) -> u64
         ensures { told self ≡ result ∷ [] }
     {

@@ -51,6 +51,7 @@ impl<'a, F: RowForm> LentStore<'a, F> {
     }
 }
 
+// A call's own clauses stand in place of the trait's: so what each of them keeps (`refused`, `named`) is said at each of the three that change the store.
 impl<'a, F: RowForm> ChunkStore for LentStore<'a, F> {
     ghost use Rattle.stores.specs.Chunks.{Free};
     ghost use Rattle.stores.specs.Choices.{MarksTook, marks_given};

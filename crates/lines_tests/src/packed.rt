@@ -10,14 +10,11 @@ fn only(page: u64, frame: u64, rights: u64) -> Result<Line, LineFault> {
 // The line of the last cluster with the largest entry in each place.
 fn largest() -> Result<Line, LineFault> {
     let mapping = Mapping::new(17_179_869_183, 7)?;
-    let mut line = only(68_719_476_735, 17_179_869_183, 7)?;
-    for position in 0..7 {
-        line = line.with(position, mapping);
-    }
-    Ok(line)
+    let last = only(68_719_476_735, 17_179_869_183, 7)?;
+    Ok((0..7).fold(last, |line, position| line.with(position, mapping)))
 }
 
-// How many single-bit damages still are some line; none may be the line itself.
+// How many single-bit damages still are some line; none may be the line itself. Each is made in a copy, so a byte goes by its number.
 fn damages(rt: &impl Abort, line: &Line) -> u32 {
     let bytes = line.pack();
     let mut lines = 0u32;
@@ -61,12 +58,8 @@ fn largest_line(rt: HostRuntime) -> Result<(), Fail> {
         return Err(Fail::new("refused"));
     };
     let mut expected = [0; 64];
-    for word in 0..8 {
-        for byte in 0..4 {
-            expected[8 * word + byte] = 0xFF;
-        }
-        expected[8 * word + 4] = 0x1F;
-        expected[8 * word + 7] = 0xF8;
+    for word in expected.chunks_exact_mut(8) {
+        word.copy_from_slice(&[0xFF, 0xFF, 0xFF, 0xFF, 0x1F, 0, 0, 0xF8]);
     }
     expected[55] = 0x38;
     expected[63] = 0x00;

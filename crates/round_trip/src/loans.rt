@@ -35,6 +35,7 @@ pub fn lend<F: RowForm>(mem: &mut [F::Cell], line: &Line) -> Result<(), StoreFau
     leave(&mut store, line)
 }
 
+// What the two makes leave, in the words of records and of bytes: each is the one function at its row form, and only its promise is its own.
 pub fn lend_records(mem: &mut [[u64; 9]], line: &Line) -> Result<(), StoreFault>
     ensures said { refusal result ≡ take_refusal (replicate (records.chunk_count mem.old) false) }
     ensures memory { mem.new ≡ records_after (records.chunk_count mem.old) 0 mem.old line.now }

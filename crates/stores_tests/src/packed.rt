@@ -1,8 +1,8 @@
 // A packed store: memory of each size, the scenarios, and the bytes that stand in memory after them.
 use crate::calls::expect;
-use crate::cases::{CASES, LEFT};
-use crate::scenarios::{has_runs, refuses_rows, takes_first, writes_rows};
-use packed_store::PackedStore;
+use crate::cases::LEFT;
+use crate::scenarios::{answers_cases, has_runs, keeps_rows, refuses_rows, takes_first};
+use packed_store::{PackedStore, Packs};
 use std::test::Fail;
 
 // 64 bytes of which two are not 0
@@ -40,8 +40,8 @@ fn handed_over(rt: HostRuntime) -> Result<(), Fail> {
     ];
     for (bytes, count, taken, pattern) in &cases {
         let mut memory = Vec::new(rt.alloc());
-        for i in 0..*bytes {
-            memory.push(pattern[i % 64])?;
+        for byte in pattern.iter().cycle().take(*bytes) {
+            memory.push(*byte)?;
         }
         {
             let mut store = PackedStore::new(&mut memory);
@@ -56,20 +56,12 @@ fn handed_over(rt: HostRuntime) -> Result<(), Fail> {
 
 #[test]
 fn calls(rt: HostRuntime) -> Result<(), Fail> {
-    for (count, steps) in &CASES {
-        let mut memory = [0xFF; 24_576];
-        assert!(rt; *count <= 3);
-        let mut store = PackedStore::new(&mut memory[0..8192 * count]);
-        expect(&rt, &mut store, steps)?;
-    }
-    Ok(())
+    answers_cases::<Packs>(&rt, rt.alloc(), 0xFF, 8192)
 }
 
 #[test]
 fn rows(rt: HostRuntime) -> Result<(), Fail> {
-    let mut memory = vec![in rt.alloc(); 0xFFu8; 16_384]?;
-    let mut store = PackedStore::new(&mut memory);
-    writes_rows(&rt, &mut store, 128)
+    keeps_rows::<Packs>(&rt, rt.alloc(), 0xFF, 16_384, 128)
 }
 
 // the last line, packed

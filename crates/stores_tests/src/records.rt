@@ -1,8 +1,8 @@
 // A record store: memory of each size, the scenarios, and the records that stand in memory after them.
 use crate::calls::expect;
-use crate::cases::{CASES, LEFT};
-use crate::scenarios::{has_runs, refuses_rows, takes_first, writes_rows};
-use record_store::RecordStore;
+use crate::cases::LEFT;
+use crate::scenarios::{answers_cases, has_runs, keeps_rows, refuses_rows, takes_first};
+use record_store::{RecordStore, Records};
 use std::test::Fail;
 
 const EMPTY: [u64; 9] = [0; 9];
@@ -59,20 +59,12 @@ fn handed_over(rt: HostRuntime) -> Result<(), Fail> {
 
 #[test]
 fn calls(rt: HostRuntime) -> Result<(), Fail> {
-    for (count, steps) in &CASES {
-        let mut memory = [DAMAGED; 12];
-        assert!(rt; *count <= 3);
-        let mut store = RecordStore::new(&mut memory[0..4 * count]);
-        expect(&rt, &mut store, steps)?;
-    }
-    Ok(())
+    answers_cases::<Records>(&rt, rt.alloc(), DAMAGED, 4)
 }
 
 #[test]
 fn rows(rt: HostRuntime) -> Result<(), Fail> {
-    let mut memory = [DAMAGED; 8];
-    let mut store = RecordStore::new(&mut memory);
-    writes_rows(&rt, &mut store, 4)
+    keeps_rows::<Records>(&rt, rt.alloc(), DAMAGED, 8, 4)
 }
 
 #[test]

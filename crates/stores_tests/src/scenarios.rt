@@ -1,9 +1,13 @@
 // Scenarios that any make goes through, and how its memory is looked at.
+// The loops go over numbers: a chunk and a row are known by theirs, which is what a call is given.
 use crate::calls::{Call, expect};
+use crate::cases::CASES;
+use lent_store::{LentStore, RowForm};
+use std::alloc::Global;
 use std::fmt::Debug;
 use std::process::Abort;
 use std::test::Fail;
-use stores::{ChunkStore, StoreFault};
+use stores::{ChunkShape, ChunkStore, StoreFault};
 
 // A store of so many chunks, so many of them free, spares those and no more.
 fn has_free<S: ChunkStore>(
@@ -82,11 +86,7 @@ fn holds_up_to<S: ChunkStore>(
 }
 
 // Writes each row of two chunks, and reads all of them after each write.
-pub(crate) fn writes_rows<S: ChunkStore>(
-    rt: &impl Abort,
-    store: &mut S,
-    rows: usize,
-) -> Result<(), Fail> {
+fn writes_rows<S: ChunkStore>(rt: &impl Abort, store: &mut S, rows: usize) -> Result<(), Fail> {
     assert_eq!(rt; S::rows_per_chunk(), rows);
     assert_eq!(rt; S::Shape::ROWS, rows);
     expect(rt, store, &[(Call::Take, Ok(0)), (Call::Take, Ok(1))])?;
@@ -98,6 +98,32 @@ pub(crate) fn writes_rows<S: ChunkStore>(
         }
     }
     Ok(())
+}
+
+// Every case answers as it must, on memory of so many cells a chunk that all held something else.
+pub(crate) fn answers_cases<F: RowForm>(
+    rt: &impl Abort,
+    heap: Global,
+    old: F::Cell,
+    chunk: usize,
+) -> Result<(), Fail> {
+    for (count, steps) in &CASES {
+        let mut memory = vec![in heap; old; count.saturating_mul(chunk)]?;
+        expect(rt, &mut LentStore::<F>::new(&mut memory), steps)?;
+    }
+    Ok(())
+}
+
+// The rows of two chunks, on memory of so many cells that all held something else.
+pub(crate) fn keeps_rows<F: RowForm>(
+    rt: &impl Abort,
+    heap: Global,
+    old: F::Cell,
+    cells: usize,
+    rows: usize,
+) -> Result<(), Fail> {
+    let mut memory = vec![in heap; old; cells]?;
+    writes_rows(rt, &mut LentStore::<F>::new(&mut memory), rows)
 }
 
 // Refuses rows in a store of three chunks of which the first is out.
@@ -132,12 +158,8 @@ pub(crate) fn refuses_rows<S: ChunkStore>(
 // What follows the cells is named where one of them differs.
 fn repeats<T: PartialEq + Debug + Copy>(rt: &impl Abort, cells: &[T], pattern: &[T], left: usize) {
     assert!(rt; pattern.len() > 0);
-    for (i, cell) in cells.iter().enumerate() {
-        assert_eq!(rt;
-            *cell,
-            pattern[i % pattern.len()],
-            "cell {i}, {left} cells before the end"
-        );
+    for (i, (cell, expected)) in cells.iter().zip(pattern.iter().cycle()).enumerate() {
+        assert_eq!(rt; *cell, *expected, "cell {i}, {left} cells before the end");
     }
 }
 
