@@ -99,6 +99,8 @@ impl Mapping {
     }
 }
 
+// An entry and its word are both of the library's types, so a conversion between them is not ours to write: two functions stand in its place.
+
 // the word of an entry: 0, or frame and rights side by side
 pub fn entry_word(entry: Entry) -> u64
     ensures { result ≡ word_of entry }
