@@ -6,19 +6,12 @@ use Rattle.std.proofs.lemmas.Bool.Decides.{nat_tests}
 use Rattle.lines.specs.declared.rows.Line.{Line}
 use Rattle.lines.specs.Lines.{empty_line}
 use Rattle.stores.specs.declared.faults.StoreFault.{StoreFault}
-use Rattle.stores.specs.declared.faults.StoreFault.TheVariants.{TooFewFree, NoneFree, NotOut, NoSuchRow}
 use Rattle.stores.specs.Chunks.{is_out}
-use Rattle.stores.specs.Refusals.{told, refusal, give_back_refusal}
+use Rattle.stores.specs.Refusals.{refusal, give_back_refusal}
 use Rattle.stores.specs.Stores.{Store, Bounded, taken, given_back, written}
+use Rattle.stores.proofs.Refusing.{some_told}
 use Rattle.stores.proofs.Modelling.{same_store, not_out_empty, back_again}
 use Rattle.keeping.specs.Laid.{all_given}
-
--- a fault has a number
-pub some_told : (e : StoreFault) → told e ≡ [] → ⊥
-some_told (TooFewFree n f) h = let z : ◌≡◌ {A = ℕ} 3 0 = ap length h in omega arith
-some_told NoneFree h = let z : ◌≡◌ {A = ℕ} 1 0 = ap length h in omega arith
-some_told NotOut h = let z : ◌≡◌ {A = ℕ} 1 0 = ap length h in omega arith
-some_told NoSuchRow h = let z : ◌≡◌ {A = ℕ} 1 0 = ap length h in omega arith
 
 -- a chunk that is not out, given back, leaves the store as it was
 given_not_out : (rows : ℕ) (s : Store) (c : ℕ) → Bounded rows s → is_out s.out c ≡ false → given_back s c ≡ s

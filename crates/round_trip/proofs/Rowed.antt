@@ -2,10 +2,8 @@
 use Rattle.std.proofs.Common.{◌≡◌, ℕ, ◌<◌, Bool, true, false, List, [], set, arith, get_or-set_same}
 use Rattle.std.proofs.lemmas.Bool.Decides.{nat_tests}
 use Rattle.std.proofs.lemmas.Nat.{pow_pos}
-use Rattle.stores.specs.declared.faults.StoreFault.{StoreFault}
-use Rattle.stores.specs.declared.faults.StoreFault.TheVariants.{TooFewFree, NoneFree, NotOut, NoSuchRow}
 use Rattle.stores.specs.Chunks.{Free, is_out}
-use Rattle.stores.specs.Refusals.{row_refusal, told}
+use Rattle.stores.specs.Refusals.{row_refusal}
 use Rattle.stores.specs.Stores.{RowsPerChunk}
 use Rattle.stores.proofs.Choosing.{some_free}
 use Rattle.round_trip.specs.Trips.{trip_refusal}
@@ -23,10 +21,3 @@ first_row rows out c power f =
     let here : is_out (set out c true) c ≡ true = get_or-set_same out c true false f.0 in
     let some : 0 < rows = omega (arith, pow_pos power.0, power.2) in
     grind (arith, nat_tests)
-
--- a refusal is told
-pub something_told : (e : StoreFault) → told e ≡ [] → ⊥
-something_told (TooFewFree needed free) h = cc
-something_told NoneFree h = cc
-something_told NotOut h = cc
-something_told NoSuchRow h = cc
