@@ -9,7 +9,7 @@ pub(crate) fn table_at(place: usize) -> u32
     NUMBERS[place]
 }
 
-// Written out, so that no call pays for the steps.
+// Written out, so that no call pays for the steps; and in one piece, since the rule that it follows runs through it from end to end.
 const NUMBERS: [u32; 1280] = [
     0x0000_0001,
     0x0004_2021,

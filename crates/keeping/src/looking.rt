@@ -20,7 +20,7 @@ pub(crate) fn count_same<S: ChunkStore>(store: &S, chunks: &[usize], lines: &[Li
     ensures { result ≡ length lines.now }
 {
     let rows = S::rows_per_chunk();
-    // A loop: what one line says of it the chain `filter(..).count()` leaves to a proof about the list of what passes.
+    // A loop is no less plain than `filter(..).count()` here: its invariant is one line, and the chain would leave a longer proof.
     let mut same = 0;
     for (k, line) in lines.iter().enumerate() {
         let at = row_of(chunks, rows, k);

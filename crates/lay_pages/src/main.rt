@@ -3,8 +3,7 @@
 
 use std::io::Read;
 
-// `store_pages` does the same with another account. A function for both would take the account as a closure and ask that it may be
-// called, and no public function here asks anything of its callers.
+// `store_pages` does the same with another account. Three lines that read and print, of which no contract can say anything, are no plainer in a crate of their own.
 fn main(rt: HostRuntime) -> anyhow::Result<()> {
     let heap = rt.alloc();
     let mut list = Vec::new(heap);

@@ -24,7 +24,7 @@ impl From<LineFault> for ListFault {
 }
 
 impl ListFault {
-    // the number by which the rules name it
+    // the rules' name of the refusal: it is told, and no value is made of it, so it is no conversion
     pub fn number(self) -> u64
         ensures { told self ≡ result ∷ [] }
     {

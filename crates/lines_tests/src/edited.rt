@@ -10,11 +10,8 @@ fn two_pages() -> Result<(Line, Mapping), LineFault> {
 
 #[test]
 fn set_and_cleared(rt: HostRuntime) -> Result<(), Fail> {
-    let Ok(made) = two_pages() else {
-        return Err(Fail::new("refused"));
-    };
-    let line = made.0;
-    assert!(rt; line.entry(1) == Some(made.1));
+    let (line, mapping) = two_pages()?;
+    assert!(rt; line.entry(1) == Some(mapping));
     assert!(rt; line.entry(2) == None);
     assert!(rt; line.is_of(1));
     assert!(rt; !line.is_of(0));
@@ -30,11 +27,8 @@ fn set_and_cleared(rt: HostRuntime) -> Result<(), Fail> {
 
 #[test]
 fn past_the_eighth(rt: HostRuntime) -> Result<(), Fail> {
-    let Ok(made) = two_pages() else {
-        return Err(Fail::new("refused"));
-    };
-    let line = made.0;
-    assert!(rt; line.with(8, made.1) == line);
+    let (line, mapping) = two_pages()?;
+    assert!(rt; line.with(8, mapping) == line);
     assert!(rt; line.without(8) == line);
     assert!(rt; line.entry(8) == None);
     Ok(())
@@ -42,12 +36,8 @@ fn past_the_eighth(rt: HostRuntime) -> Result<(), Fail> {
 
 #[test]
 fn cluster_zero(rt: HostRuntime) -> Result<(), Fail> {
-    let Ok(mapping) = Mapping::new(5, 1) else {
-        return Err(Fail::new("refused"));
-    };
-    let Ok(page) = Page::try_from(0) else {
-        return Err(Fail::new("refused"));
-    };
+    let mapping = Mapping::new(5, 1)?;
+    let page = Page::try_from(0)?;
     let line = Line::only(page, mapping);
     assert!(rt; line.is_of(0));
     assert!(rt; !line.is_empty());

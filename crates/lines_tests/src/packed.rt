@@ -41,9 +41,7 @@ fn is_refused(bytes: &[u8]) -> bool {
 
 #[test]
 fn page_nine_alone(rt: HostRuntime) -> Result<(), Fail> {
-    let Ok(line) = only(9, 2, 1) else {
-        return Err(Fail::new("refused"));
-    };
+    let line = only(9, 2, 1)?;
     let mut expected = [0; 64];
     expected[7] = 0x08;
     expected[8] = 0x11;
@@ -54,9 +52,7 @@ fn page_nine_alone(rt: HostRuntime) -> Result<(), Fail> {
 
 #[test]
 fn largest_line(rt: HostRuntime) -> Result<(), Fail> {
-    let Ok(line) = largest() else {
-        return Err(Fail::new("refused"));
-    };
+    let line = largest()?;
     let mut expected = [0; 64];
     for word in expected.chunks_exact_mut(8) {
         word.copy_from_slice(&[0xFF, 0xFF, 0xFF, 0xFF, 0x1F, 0, 0, 0xF8]);
@@ -109,12 +105,8 @@ fn not_lines(rt: HostRuntime) {
 
 #[test]
 fn unpacks_back(rt: HostRuntime) -> Result<(), Fail> {
-    let Ok(line) = largest() else {
-        return Err(Fail::new("refused"));
-    };
-    let Ok(back) = Line::unpack(&line.pack()) else {
-        return Err(Fail::new("no line"));
-    };
+    let line = largest()?;
+    let back = Line::unpack(&line.pack())?;
     assert!(rt; back == line);
     assert!(rt; back.entry(3) == line.entry(7));
     assert!(rt; back.entry(8) == None);
@@ -123,9 +115,7 @@ fn unpacks_back(rt: HostRuntime) -> Result<(), Fail> {
 
 #[test]
 fn words_of_a_line(rt: HostRuntime) -> Result<(), Fail> {
-    let Ok(line) = only(9, 5, 3) else {
-        return Err(Fail::new("refused"));
-    };
+    let line = only(9, 5, 3)?;
     let words = [0, 43, 0, 0, 0, 0, 0, 0];
     assert_eq!(rt; line.words(), words);
     assert!(rt; Line::from_words(1, words) == Some(line));

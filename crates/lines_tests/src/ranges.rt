@@ -2,6 +2,7 @@
 use lines::{Address, LineFault, Mapping, Page, entry_from_word, entry_word};
 use std::test::Fail;
 
+// the number of a refusal, 0 where there is none: the tables hold the rules' numbers
 fn fault_of<T: Drop>(made: Result<T, LineFault>) -> u64 {
     match made {
         Ok(_) => 0,
@@ -11,9 +12,7 @@ fn fault_of<T: Drop>(made: Result<T, LineFault>) -> u64 {
 
 #[test]
 fn largest_page(rt: HostRuntime) -> Result<(), Fail> {
-    let Ok(page) = Page::try_from(68_719_476_735) else {
-        return Err(Fail::new("refused"));
-    };
+    let page = Page::try_from(68_719_476_735)?;
     assert_eq!(rt; page.cluster(), 8_589_934_591);
     assert_eq!(rt; page.position(), 7);
     assert_eq!(rt; fault_of(Page::try_from(68_719_476_736)), 3);
@@ -23,9 +22,7 @@ fn largest_page(rt: HostRuntime) -> Result<(), Fail> {
 
 #[test]
 fn largest_address(rt: HostRuntime) -> Result<(), Fail> {
-    let Ok(address) = Address::try_from(281_474_976_710_655) else {
-        return Err(Fail::new("refused"));
-    };
+    let address = Address::try_from(281_474_976_710_655)?;
     assert_eq!(rt; address.page().number, 68_719_476_735);
     assert_eq!(rt; address.offset(), 4095);
     assert_eq!(rt; fault_of(Address::try_from(281_474_976_710_656)), 3);
@@ -51,12 +48,8 @@ fn frames_and_rights(rt: HostRuntime) {
 
 #[test]
 fn places(rt: HostRuntime) -> Result<(), Fail> {
-    let Ok(address) = Address::try_from(7) else {
-        return Err(Fail::new("refused"));
-    };
-    let Ok(mapping) = Mapping::new(5, 3) else {
-        return Err(Fail::new("refused"));
-    };
+    let address = Address::try_from(7)?;
+    let mapping = Mapping::new(5, 3)?;
     assert_eq!(rt; mapping.place(address), 20487);
     assert_eq!(rt; entry_word(Some(mapping)), 43);
     Ok(())
@@ -70,9 +63,7 @@ fn words(rt: HostRuntime) -> Result<(), Fail> {
     }
     let some = [0, 1, 43, (1 << 37) - 1];
     for word in some.iter() {
-        let Some(entry) = entry_from_word(*word) else {
-            return Err(Fail::new("no entry"));
-        };
+        let entry = entry_from_word(*word).ok_or("no entry")?;
         assert_eq!(rt; entry_word(entry), *word);
     }
     Ok(())

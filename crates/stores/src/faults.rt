@@ -1,6 +1,5 @@
 // Why a chunk store refuses.
-ghost use Rattle.std.specs.Prelude.{◌≡◌, slice_index};
-ghost use Rattle.std.specs.Prelude.{Some};
+ghost use Rattle.std.specs.Prelude.{◌≡◌, Some, slice_index};
 ghost use Rattle.stores.specs.Refusals.{told, refused_text};
 
 use std::fmt;
@@ -17,7 +16,7 @@ pub enum StoreFault {
 }
 
 impl StoreFault {
-    // the number by which the rules name it
+    // the rules' name of the refusal: it is told, and no value is made of it, so it is no conversion
     pub fn number(self) -> u64
         ensures { result ≡ slice_index (told self) 0 }
     {

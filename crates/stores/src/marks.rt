@@ -12,9 +12,9 @@ use crate::store::RowIndex;
 // how many chunks a store on handed-over memory has at most
 pub const MOST_CHUNKS: usize = 256;
 
-// One for each chunk, true where it is out, and the mark from which on a free one is looked for.
-// How many chunks there are is told at each call, for it follows from the memory. A law that tied a number kept here to the memory would bar every store
-// from being the type argument of a generic struct, as a space over any store has to be one: the check takes no type there that holds a loan and a law.
+// One for each chunk, true where it is out, and the mark from which on a free one is looked for. Fixed memory, since no call of a store allocates.
+// How many chunks there are is told at each call, for it follows from the memory. Kept here, it would need a law that ties it to the memory; and a store with
+// such a law is refused as the type argument of a generic struct, so that no space could be built over any store.
 #[derive(Drop)]
 pub struct Marks {
     out: [bool; MOST_CHUNKS],

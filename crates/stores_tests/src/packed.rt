@@ -1,4 +1,5 @@
 // A packed store: memory of each size, the scenarios, and the bytes that stand in memory after them.
+// What stands in memory is told in its own cells, so these tests of each make are its own; what any store answers is tested once, over all makes.
 use crate::calls::expect;
 use crate::cases::LEFT;
 use crate::scenarios::{answers_cases, has_runs, keeps_rows, refuses_rows, takes_first};
@@ -39,10 +40,12 @@ fn handed_over(rt: HostRuntime) -> Result<(), Fail> {
         (20_000, 2, 1, with_two(7, 0x08, 8, 0x11)),
     ];
     for (bytes, count, taken, pattern) in &cases {
-        let mut memory = Vec::new(rt.alloc());
-        for byte in pattern.iter().cycle().take(*bytes) {
-            memory.push(*byte)?;
-        }
+        let mut memory: Vec<u8> = pattern
+            .iter()
+            .copied()
+            .cycle()
+            .take(*bytes)
+            .collect(rt.alloc())?;
         {
             let mut store = PackedStore::new(&mut memory);
             takes_first(&rt, &mut store, *count, *taken)?;

@@ -1,4 +1,4 @@
-// A record store: memory of each size, the scenarios, and the records that stand in memory after them.
+// A record store: memory of each size, the scenarios, and the records that stand in memory after them, told in its own cells.
 use crate::calls::expect;
 use crate::cases::LEFT;
 use crate::scenarios::{answers_cases, has_runs, keeps_rows, refuses_rows, takes_first};

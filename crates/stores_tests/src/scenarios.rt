@@ -1,5 +1,5 @@
 // Scenarios that any make goes through, and how its memory is looked at.
-// The loops go over numbers: a chunk and a row are known by theirs, which is what a call is given.
+// The loops go over numbers: a chunk and a row are known by theirs, and no list of them stands anywhere.
 use crate::calls::{Call, expect};
 use crate::cases::CASES;
 use lent_store::{LentStore, RowForm};
@@ -16,7 +16,6 @@ fn has_free<S: ChunkStore>(
     count: usize,
     free: usize,
 ) -> Result<(), Fail> {
-    let _touched = 0u8;
     let needed = free.saturating_add(1);
     let steps = [
         (Call::Count, Ok(count)),
@@ -77,7 +76,7 @@ fn holds_up_to<S: ChunkStore>(
 ) -> Result<(), Fail> {
     for chunk in 0..2 {
         for row in 0..S::rows_per_chunk() {
-            let is_written = chunk < last_chunk || chunk == last_chunk && row <= last_row;
+            let is_written = (chunk, row) <= (last_chunk, last_row);
             let line = if is_written { line_for(chunk, row) } else { 0 };
             expect(rt, store, &[(Call::Read(chunk, row), Ok(line))])?;
         }
