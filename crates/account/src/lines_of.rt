@@ -30,10 +30,7 @@ impl<'a> PackedLine<'a> {
     fn unpacks_to_same(&self) -> bool
         ensures { result ≡ true }
     {
-        match Line::unpack(&self.bytes) {
-            Ok(back) => back == *self.line,
-            Err(_) => false,
-        }
+        Line::unpack(&self.bytes) == Ok(*self.line)
     }
 }
 

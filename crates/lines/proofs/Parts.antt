@@ -1,4 +1,4 @@
--- A number and its parts of some bits each, whatever that number of bits.
+-- A number and its parts: of five bits each, put together from the last; and of any number of bits, which tell it apart.
 use Rattle.std.proofs.Common.{◌≡◌, ℕ, zero, suc, ◌+◌, ◌*◌, ◌/◌, ◌%◌, ◌^◌, ◌<◌, ◌≤◌, List, [], ◌∷◌, length, get_or, sym, ap, ◌∙◌, mod-eq_of_lt, mul-zero, mul-suc, arith}
 use Rattle.std.proofs.lemmas.Nat.{mod-pow-add, pow-add}
 use Rattle.std.proofs.Math.Nat.{div-div-eq-div-mul}
@@ -23,9 +23,9 @@ pub joined_none : Joined [] 0
 joined_none long fits = (omega arith, λ k h. absurd (omega arith))
 
 -- the parts of a number that was made of a last word and the words above it
-parts_more : (ws : List ℕ) (n w : ℕ) → w < 2 ^ 64 → ((k : ℕ) → k < length ws → cluster_part n k ≡ get_or ws k 0 / 2 ^ content_bits) → (k : ℕ) → k < length (w ∷ ws) → cluster_part (n * 32 + w / 2 ^ content_bits) k ≡ get_or (w ∷ ws) k 0 / 2 ^ content_bits
-parts_more ws n w small parts zero h = omega arith
-parts_more ws n w small parts (suc k) h = part_next n (w / 2 ^ content_bits) k (omega arith) ∙ parts k (omega arith)
+part_below_parts : (ws : List ℕ) (n w : ℕ) → w < 2 ^ 64 → ((k : ℕ) → k < length ws → cluster_part n k ≡ get_or ws k 0 / 2 ^ content_bits) → (k : ℕ) → k < length (w ∷ ws) → cluster_part (n * 32 + w / 2 ^ content_bits) k ≡ get_or (w ∷ ws) k 0 / 2 ^ content_bits
+part_below_parts ws n w small parts zero h = omega arith
+part_below_parts ws n w small parts (suc k) h = part_next n (w / 2 ^ content_bits) k (omega arith) ∙ parts k (omega arith)
 
 -- one more word, below those that are joined
 pub joined_more : (ws : List ℕ) (n w m : ℕ) → Joined ws n → m ≡ n * 2 ^ cluster_bits % 2 ^ 64 + w / 2 ^ content_bits → Joined (w ∷ ws) m
@@ -36,7 +36,7 @@ joined_more ws n w m joined is long fits =
     let e : m ≡ n * 32 + w / 2 ^ content_bits = omega arith in
     let more : 2 ^ (cluster_bits * suc (length ws)) ≡ 32 * 2 ^ (cluster_bits * length ws) =
     ap (λ j. 2 ^ j) (omega (arith, mul-suc cluster_bits (length ws))) ∙ pow-add 2 5 (cluster_bits * length ws) in
-    (omega (arith, low.0), λ k h. ap (λ x. cluster_part x k) e ∙ parts_more ws n w last low.1 k h)
+    (omega (arith, low.0), λ k h. ap (λ x. cluster_part x k) e ∙ part_below_parts ws n w last low.1 k h)
 
 low_same : (b c d n : ℕ) → ((i : ℕ) → i < n → part_of b c i ≡ part_of b d i) → c % 2 ^ (b * n) ≡ d % 2 ^ (b * n)
 low_same b c d zero e =

@@ -4,7 +4,6 @@ use Rattle.std.specs.List.{AllZip, IsAmong}
 use Rattle.std.specs.Prelude.{Option, Some, None, MatchOption, IfOk, IfErr}
 use Rattle.std.specs.Result.{result_ok}
 use Rattle.std.proofs.lemmas.List.{get_or-map, length-map}
-use Rattle.lines.specs.declared.faults.LineFault.{LineFault}
 use Rattle.lines.specs.declared.rows.Line.{Line}
 use Rattle.lines.specs.Decoded.{record_of, NoRecord}
 use Rattle.lines.specs.Entries.{Entry, word_of, NoEntry, NoEntries}
@@ -40,7 +39,7 @@ none_has ws w at none es e =
     none (get_or es at.0 None) (sym (get_or-map word_of es at.0 None w here) ∙ ap (λ xs. get_or xs at.0 w) e ∙ sym at.1.1)
 
 -- what comes of looking for the entries of words
-pub of_words : (ws : List ℕ) (P : List Entry → Type 0) (N : LineFault → Type 0) (r : Result (List Entry) LineFault) (o : Option (List Entry)) → o ≡ result_ok r → IfOk r P → IfErr r N → ((es : List Entry) → P es → map word_of es ≡ ws) → ((e : LineFault) → N e → NoEntries ws) → MatchOption o (NoEntries ws) (λ es. map word_of es ≡ ws)
+pub of_words : {E : Type 0} (ws : List ℕ) (P : List Entry → Type 0) (N : E → Type 0) (r : Result (List Entry) E) (o : Option (List Entry)) → o ≡ result_ok r → IfOk r P → IfErr r N → ((es : List Entry) → P es → map word_of es ≡ ws) → ((e : E) → N e → NoEntries ws) → MatchOption o (NoEntries ws) (λ es. map word_of es ≡ ws)
 of_words ws P N (Ok es) o e ok err there none = subst (λ o. MatchOption o (NoEntries ws) (λ es. map word_of es ≡ ws)) (sym e) (there es ok)
 of_words ws P N (Err x) o e ok err there none = subst (λ o. MatchOption o (NoEntries ws) (λ es. map word_of es ≡ ws)) (sym e) (none x err)
 

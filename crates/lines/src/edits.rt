@@ -6,7 +6,6 @@ ghost use Rattle.lines.specs.Numbers.{cluster_of, position_of};
 ghost use Rattle.lines.specs.Lines.{entry_at, is_empty, is_of, filled, cleared, no_entries, Holds, NoLine, cluster_left};
 
 use crate::entries::{Entry, Mapping};
-use crate::faults::LineFault;
 use crate::numbers::Page;
 use crate::rows::Line;
 use crate::words::{entry_from_word, entry_word};
@@ -23,16 +22,14 @@ fn any_present(entries: &[Entry; 8]) -> bool
 fn entries_of(words: [u64; 8]) -> Option<[Entry; 8]>
     ensures { MatchOption result (NoEntries words) (λ es. map word_of es ≡ words) }
 {
-    words
-        .try_map(|word| entry_from_word(word).ok_or(LineFault::NotALine))
-        .ok()
+    words.try_map(|word| entry_from_word(word).ok_or(())).ok()
 }
 
 // the entries with that at a position replaced; there is none past the eighth
 fn with_entry(mut entries: [Entry; 8], position: usize, entry: Entry) -> [Entry; 8]
     ensures { result ≡ slice_set entries position entry }
 {
-    // `get_mut` would tell a proof nothing of the elements.
+    // Tried: after `get_mut` a proof knows nothing of the elements.
     if position < entries.len() {
         entries[position] = entry;
     }

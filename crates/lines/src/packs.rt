@@ -29,7 +29,7 @@ impl Line {
         (part << CONTENT_BITS) + entry_word(self.entries[k])
     }
 
-    // Different lines pack differently. The rules call it packing, and no member of a conversion could promise this.
+    // Different lines pack differently. Packing is the rules' word for it; a conversion would promise the same two facts as one without a name.
     pub fn pack(&self) -> [u8; 64]
         ensures value { result ≡ packed self.now }
         ensures apart { (l : ALine) → packed l ≡ result → l ≡ self.now }

@@ -20,7 +20,7 @@ fn cluster_in(words: &[u64; 8]) -> u64
 }
 
 impl Line {
-    // A packed line unpacks to itself, and what unpacks is the packed form of the answer. It stands beside `pack`, and promises more than a conversion could.
+    // A packed line unpacks to itself, and what unpacks is the packed form of the answer. It stands beside `pack`, for the reason given there.
     pub fn unpack(bytes: &[u8]) -> Result<Line, LineFault>
         ensures said { Unpacked bytes.now result }
         ensures back { (l : ALine) → packed l ≡ bytes.now → result ≡ Ok l }

@@ -18,6 +18,7 @@ const PAGE_BYTES: u64 = 4096;
 
 const PAGES_IN_A_LINE: u64 = 8;
 
+// Addresses and pages have a maker each: why they are two types is said where they are declared.
 impl TryFrom<u64> for Address {
     type Error = LineFault;
 

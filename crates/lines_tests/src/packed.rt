@@ -14,7 +14,7 @@ fn largest() -> Result<Line, LineFault> {
     Ok((0..7).fold(last, |line, position| line.with(position, mapping)))
 }
 
-// How many single-bit damages still are some line; none may be the line itself. Each is made in a copy, so a byte goes by its number.
+// How many single-bit damages still are some line; none may be the line itself. Each is made in a copy, so a byte goes by its number, and what comes of it is counted as it is looked at.
 fn damages(rt: &impl Abort, line: &Line) -> u32 {
     let bytes = line.pack();
     let mut lines = 0u32;

@@ -62,7 +62,7 @@ pub trait ChunkStore {
         ensures after { model self.new ≡ (if is_ok result then given_back (model self.old) chunk else model self.old) }
         ensures refused { is_ok result ≡ false → self.new ≡ self.old };
 
-    // Puts the line in a row of a chunk into a place that the caller lends.
+    // Puts the line in a row of a chunk into a place that the caller lends: no line is copied on its way, and a refused read leaves the place as it was.
     fn read(&self, at: RowIndex, into: &mut Line) -> Result<(), StoreFault>
         ensures said { refusal result ≡ row_refusal rows (model self.now).out at.chunk at.row }
         ensures after { into.new ≡ (if is_ok result then (model self.now).line at.chunk at.row else into.old) };

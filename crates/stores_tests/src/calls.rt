@@ -1,4 +1,5 @@
-// Calls on a store of any make, as values, each with what it must answer: they stand in tables, and are compared and printed.
+// Calls on a store of any make, as values, each with what it must answer: they stand in tables, and are printed where an answer differs.
+// In the tables a chunk and a row are two numbers, which is short. An answer is a result inside the test's own: the inner one is the store's, the outer one that of the test.
 use lines::{Line, LineFault, Mapping, Page};
 use std::process::Abort;
 use std::test::Fail;

@@ -1,7 +1,10 @@
 -- What the search leaves to show of `unpacks_to_same`.
-use Rattle.std.proofs.Common.{rules}
+use Rattle.std.proofs.Common.{refl, sym, ◌∙◌}
 use Rattle.lines.proofs.Equal.{line_decides}
 use Rattle.account.proofs.lines_of.PackedLine.unpacks_to_same.Goals as goal
 
-pub returns-in-Ok : goal.returns-in-Ok
-returns-in-Ok c = let same = line_decides c.in-Ok.back c.args.self.now.line.now in search rules
+pub returns : goal.returns
+returns c =
+    let l = c.args.self.now.line.now in
+    let back = c.unpack.ensures.back l (sym c.args.self.now.packs) in
+    c.eq.ensures ∙ rw back ((line_decides l l).1 refl)
