@@ -23,6 +23,13 @@ def bare(line):
     return re.sub(r"//.*", "", line)
 
 
+def code():
+    """each line without its comment, with its file and number"""
+    for path, lines in sources():
+        for k, line in enumerate(lines):
+            yield path, k + 1, bare(line)
+
+
 def items(lines, word):
     """each `word` item: its first line and the text to its closing brace"""
     for start, line in enumerate(lines):
@@ -107,25 +114,23 @@ def point2(least):
 
 
 def point3():
-    for path, lines in sources():
-        for k, line in enumerate(lines):
-            code = bare(line)
-            if re.match(r"\s*while ", code):
-                yield path, k + 1, "while: " + code.strip()
-            if re.match(r"\s*for \w+ in [^{]*\.\.", code):
-                yield path, k + 1, "for over numbers: " + code.strip()
-            if ".enumerate()" in code and re.match(r"\s*for ", code):
-                yield path, k + 1, "for with its index: " + code.strip()
-            if re.match(r"\s*\w+ \+= 1;", code):
-                yield path, k + 1, "counter: " + code.strip()
+    for path, at, line in code():
+        if re.match(r"\s*while ", line):
+            yield path, at, "while: " + line.strip()
+        if re.match(r"\s*for \w+ in [^{]*\.\.", line):
+            yield path, at, "for over numbers: " + line.strip()
+        if ".enumerate()" in line and re.match(r"\s*for ", line):
+            yield path, at, "for with its index: " + line.strip()
+        if re.match(r"\s*\w+ \+= 1;", line):
+            yield path, at, "counter: " + line.strip()
 
 
 def point4():
+    for path, at, line in code():
+        m = re.search(r"impl(?:<.*?>)? (?:fmt::)?(PartialEq|Eq|PartialOrd|Ord|Clone|Copy|Default|Debug|Hash) for (\w+)", line)
+        if m:
+            yield path, at, f"{m.group(1)} by hand: {m.group(2)}"
     for path, lines in sources():
-        for k, line in enumerate(lines):
-            m = re.search(r"impl(?:<.*?>)? (?:fmt::)?(PartialEq|Eq|PartialOrd|Ord|Clone|Copy|Default|Debug|Hash) for (\w+)", bare(line))
-            if m:
-                yield path, k + 1, f"{m.group(1)} by hand: {m.group(2)}"
         for at, text in items(lines, "fn"):
             head = text.split("{")[0]
             name = name_of(text, "fn")
@@ -175,17 +180,16 @@ def point6():
             head = text.split("{")[0]
             if re.search(r"\b(n|len|count|rows): usize", head) and re.search(r"&(mut )?self|&(mut )?\[", head):
                 yield path, at, "length handed beside what has it: " + name_of(text, "fn")
-        for k, line in enumerate(lines):
-            if re.search(r"binary_search|\.sort|Box<|Box::new", bare(line)):
-                yield path, k + 1, "sorting, searching or boxing: " + bare(line).strip()
+    for path, at, line in code():
+        if re.search(r"binary_search|\.sort|Box<|Box::new", line):
+            yield path, at, "sorting, searching or boxing: " + line.strip()
 
 
 def point7():
+    for path, at, line in code():
+        if re.search(r"\bdyn |: fn\(|\[fn\(|Box<dyn", line):
+            yield path, at, "function value: " + line.strip()
     for path, lines in sources():
-        for k, line in enumerate(lines):
-            code = bare(line)
-            if re.search(r"\bdyn |: fn\(|\[fn\(|Box<dyn", code):
-                yield path, k + 1, "function value: " + code.strip()
         for at, text in items(lines, "enum"):
             if re.search(r"\b(Call|Step|Op|Command|Action|Mode)\b", text.split("{")[0]):
                 yield path, at, "enum of steps: " + name_of(text, "enum")

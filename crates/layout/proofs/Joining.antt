@@ -1,5 +1,5 @@
 -- A page set in its cluster's line.
-use Rattle.std.proofs.Common.{◌≡◌, ℕ, zero, suc, ◌+◌, ◌*◌, ◌<◌, true, cond, not, eqb, List, [], ◌∷◌, length, get_or, set, Some, None, refl, ap, ◌∙◌, ⊎_elim, arith, eqb-true, rules}
+use Rattle.std.proofs.Common.{◌≡◌, ℕ, ◌+◌, ◌*◌, ◌<◌, true, cond, not, eqb, List, length, get_or, set, Some, None, ap, ◌∙◌, ⊎_elim, arith, eqb-true, rules}
 use Rattle.std.proofs.lemmas.Bool.{and_parts, cases_eq}
 use Rattle.std.specs.BTreeMap.{BTreeMap, get}
 use Rattle.std.specs.Ordering.{nat_cmp}
@@ -9,12 +9,7 @@ use Rattle.lines.specs.Entries.{Entry, word_of, any_present}
 use Rattle.lines.specs.Lines.{entry_at, is_empty, is_of, Holds}
 use Rattle.lines.specs.Numbers.{cluster_of, position_of}
 use Rattle.layout.specs.Steps.{Joined}
-
-any_set : (es : List Entry) (k : ℕ) (x : Mapping) → k < length es → any_present (set es k (Some x)) ≡ true
-any_set [] k x h = absurd (omega arith)
-any_set (e ∷ es) zero x h = refl
-any_set (None ∷ es) (suc k) x h = any_set es k x (omega arith)
-any_set (Some y ∷ es) (suc k) x h = refl
+use Rattle.lines.proofs.Present.{any_set}
 
 -- an entry set in a list of entries, by words
 word_set : (es : List Entry) (i k : ℕ) (x : Entry) → i < length es → word_of (get_or (set es i x) k None) ≡ cond (eqb k i) (word_of x) (word_of (get_or es k None))
