@@ -9,6 +9,7 @@ pub trait Family {
     // the number of a cluster in a way
     ghost number: { Self → ℕ → ℕ → ℕ };
 
+    // the number of a cluster in a way, where every family has one
     fn known_number(&self, at: KnownCluster) -> u32
         ensures { result ≡ number self.now at.way at.cluster };
 
@@ -18,6 +19,7 @@ pub trait Family {
     // outside the three ways and the clusters of 33 bits the number is 0
     ghost elsewhere: { (f : Self) (w c : ℕ) → known w c ≡ false → number f w c ≡ 0 };
 
+    // the number of any cluster in any way
     final fn number_of(&self, way: usize, cluster: u64) -> u32
         ensures { result ≡ number self.now way cluster }
     {

@@ -26,6 +26,7 @@ pub trait ChunkShape {
 // A chunk is a run of memory for so many rows, each of which holds one line. It is free, or out: handed to whoever took it.
 // Every call answers on any input. A refused call changes nothing, of the store itself and not only of what it holds.
 pub trait ChunkStore {
+    // how many rows its chunks have, as a constant
     type Shape: ChunkShape;
 
     // what the store holds
@@ -36,6 +37,7 @@ pub trait ChunkStore {
 
     ghost power: { RowsPerChunk rows };
 
+    // no line is told where no row can be reached
     ghost bounded: { (s : Self) → Bounded rows (model s) };
 
     // how many chunks there are
@@ -73,8 +75,10 @@ pub trait ChunkStore {
         ensures after { model self.new ≡ (if is_ok result then written (model self.old) at.chunk at.row line.now else model self.old) }
         ensures refused { is_ok result ≡ false → self.new ≡ self.old };
 
+    // the rows that clauses speak of are the shape's
     ghost shaped: { rows ≡ Self.Shape.ROWS };
 
+    // how many rows a chunk has, a power of two from 1 to 128
     final fn rows_per_chunk() -> usize
         ensures value { result ≡ rows }
         ensures power { RowsPerChunk result }
