@@ -13,14 +13,8 @@ pub trait Family {
     fn known_number(&self, at: KnownCluster) -> u32
         ensures { result ≡ number self.now at.way at.cluster };
 
-    // every number has 32 bits
-    ghost small: { (f : Self) (w c : ℕ) → number f w c < 2 ^ 32 };
-
-    // outside the three ways and the clusters of 33 bits the number is 0
-    ghost elsewhere: { (f : Self) (w c : ℕ) → known w c ≡ false → number f w c ≡ 0 };
-
     // the number of any cluster in any way
-    final fn number_of(&self, way: usize, cluster: u64) -> u32
+    fn number_of(&self, way: usize, cluster: u64) -> u32
         ensures { result ≡ number self.now way cluster }
     {
         match KnownCluster::new(way, cluster) {
@@ -28,4 +22,10 @@ pub trait Family {
             None => 0,
         }
     }
+
+    // every number has 32 bits
+    ghost small: { (f : Self) (w c : ℕ) → number f w c < 2 ^ 32 };
+
+    // outside the three ways and the clusters of 33 bits the number is 0
+    ghost elsewhere: { (f : Self) (w c : ℕ) → known w c ≡ false → number f w c ≡ 0 };
 }

@@ -25,3 +25,10 @@ fn past_the_ways<F: Family>(family: &F, cluster: u64) -> u32
 {
     family.number_of(3, cluster)
 }
+
+// The number of a family of which only a pointer is known.
+fn number_behind(family: &dyn Family, way: usize, cluster: u64) -> u32
+    ensures { result ≡ number family.now way cluster }
+{
+    family.number_of(way, cluster)
+}

@@ -1,5 +1,5 @@
 // The three families at both ends of their range, against numbers worked out apart from this code.
-use crate::{numbers, past_the_ways};
+use crate::{number_behind, numbers, past_the_ways};
 use families::{Digit, Family, Mix, Table};
 use std::process::Abort;
 
@@ -47,6 +47,8 @@ fn agrees<F: Family>(rt: &impl Abort, family: &F, cases: &[(u64, [u32; 3])]) {
 #[test]
 fn digits(rt: HostRuntime) {
     agrees(&rt, &Digit, &DIGITS);
+    assert_eq!(rt; number_behind(&Digit, 1, 36), 4);
+    assert_eq!(rt; number_behind(&Digit, 3, 36), 0);
 }
 
 #[test]
