@@ -1,22 +1,23 @@
 -- Bytes and the one line that packs to them.
-use Rattle.std.proofs.Common.{◌≡◌, ℕ, zero, suc, ◌+◌, ◌*◌, ◌/◌, ◌%◌, ◌^◌, ◌<◌, List, [], ◌∷◌, map, drop, length, get_or, w64, Ok, Err, Result, sym, refl, ap, ◌∙◌, subst, add-zero, arith, rules}
+use Rattle.std.proofs.Common.{◌≡◌, ℕ, zero, suc, ◌+◌, ◌*◌, ◌/◌, ◌%◌, ◌^◌, ◌<◌, List, [], ◌∷◌, ◌++◌, map, drop, length, get_or, w64, Ok, Err, Result, sym, refl, ap, ◌∙◌, subst, add-zero, arith, rules}
 use Rattle.std.proofs.lemmas.List.FromFn.{fill_by_all, length-map-range_with_len, get_or-map-range_with_len}
-use Rattle.std.proofs.lemmas.List.{ext_get_or, get_or-drop, get_or-map, get_or-take, length-map}
-use Rattle.std.specs.Int.{from_le_bytes}
+use Rattle.std.proofs.lemmas.List.{ext_get_or, get_or_append_left, get_or-append_right, get_or-drop, get_or-map, get_or-take, length-map, places}
+use Rattle.std.specs.Int.{from_le_bytes, to_le_bytes}
+use Rattle.std.specs.List.{flat_map}
 use Rattle.std.specs.Option.{ok_or}
 use Rattle.std.specs.Simd.{first_chunks}
 use Rattle.std.specs.Prelude.{Option, Some, None, MatchOption}
 use Rattle.lines.specs.declared.faults.LineFault.{LineFault}
 use Rattle.lines.specs.declared.faults.LineFault.TheVariants.{NotALine}
 use Rattle.lines.specs.declared.rows.Line.{Line}
-use Rattle.lines.specs.Decoded.{record_of, NoRecord}
-use Rattle.lines.specs.Entries.{word_of}
-use Rattle.lines.specs.Lines.{entry_at}
+use Rattle.lines.specs.Decoded.{record_of}
+use Rattle.lines.specs.Entries.{Entry, word_of}
+use Rattle.lines.specs.Lines.{entry_at, Holds, NoLine}
 use Rattle.lines.specs.Packs.{cluster_bits, content_bits, cluster_part, packed_word, byte_of, packed_byte, packed, word_at}
 use Rattle.lines.specs.Refusals.{Unpacked}
 use Rattle.lines.proofs.Parts.{same_parts}
 use Rattle.lines.proofs.Present.{word_lt}
-use Rattle.lines.proofs.Recorded.{records_apart}
+use Rattle.lines.proofs.Recorded.{FilledTo, record_holds, records_apart}
 
 pub length-packed : (l : Line) → length (packed l) ≡ 64
 unfolding packed
@@ -49,6 +50,29 @@ packed-word_at l bs e k p =
     let first : get_or bs (8 * k) 0 ≡ byte_of (packed_word l k) 0 = simp add-zero at (at 0 (omega arith)) in
     omega (arith, joined_bytes (packed_word l k) (packed_word_lt l k), first, at 1 (omega arith), at 2 (omega arith), at 3 (omega arith), at 4 (omega arith), at 5 (omega arith), at 6 (omega arith), at 7 (omega arith))
 
+le_byte : (w j : ℕ) → j < 8 → get_or (to_le_bytes w64 w) j 0 ≡ byte_of w j
+le_byte w j h = search (rules, places)
+
+-- arrays of eight bytes, end to end
+rows_at : (rs : List (List ℕ)) (k j : ℕ) → ((i : ℕ) → i < length rs → length (get_or rs i []) ≡ 8) → k < length rs → j < 8 → get_or (flat_map (λ x. x) rs) (8 * k + j) 0 ≡ get_or (get_or rs k []) j 0
+rows_at [] k j long h p = absurd (omega arith)
+rows_at (r ∷ rs) zero j long h p = ap (λ n. get_or (r ++ flat_map (λ x. x) rs) n 0) (omega arith) ∙ get_or_append_left r (flat_map (λ x. x) rs) 0 j (omega (arith, long 0 (omega arith)))
+rows_at (r ∷ rs) (suc k) j long h p =
+    get_or-append_right r (flat_map (λ x. x) rs) 8 (8 * suc k + j) 0 (long 0 (omega arith)) (omega arith)
+    ∙ ap (λ n. get_or (flat_map (λ x. x) rs) n 0) (omega arith) ∙ rows_at rs k j (λ i l. long (suc i) (omega arith)) (omega arith) p
+
+-- the bytes of a packed line's words, low byte first, are the packed line
+pub rows_packed : (l : Line) (rs : List (List ℕ)) (bs : List ℕ) → length rs ≡ 8 → ((k : ℕ) → k < 8 → get_or rs k [] ≡ to_le_bytes w64 (packed_word l k)) → bs ≡ flat_map (λ x. x) rs → length bs ≡ 64 → bs ≡ packed l
+unfolding packed
+rows_packed l rs bs eight row e long =
+    fill_by_all (packed_byte l) bs 64 0 long (λ b h.
+    let p : b / 8 < 8 = omega arith in
+    let q : b % 8 < 8 = omega arith in
+    let s : b ≡ 8 * (b / 8) + b % 8 = omega arith in
+    ap (λ xs. get_or xs b 0) e ∙ ap (λ n. get_or (flat_map (λ x. x) rs) n 0) s
+    ∙ rows_at rs (b / 8) (b % 8) (λ i l. ap length (row i (omega arith))) (omega arith) q
+    ∙ ap (λ r. get_or r (b % 8) 0) (row (b / 8) p) ∙ le_byte (packed_word l (b / 8)) (b % 8) q)
+
 chunk_at : (m : ℕ) (bs : List ℕ) (k j : ℕ) → k < m → j < 8 → get_or (get_or (first_chunks 8 m bs) k []) j 0 ≡ get_or bs (8 * k + j) 0
 chunk_at zero bs k j h i = absurd (omega arith)
 chunk_at (suc m) bs zero j h i = get_or-take 8 bs j 0 i ∙ ap (λ n. get_or bs n 0) (omega arith)
@@ -64,12 +88,31 @@ chunk_reads cs bs k at =
 pub chunk_word : (bs : List ℕ) (k : ℕ) → k < 8 → from_le_bytes w64 (get_or (first_chunks 8 8 bs) k []) ≡ word_at bs k
 chunk_word bs k h = chunk_reads (get_or (first_chunks 8 8 bs) k []) bs k (λ j i. chunk_at 8 bs k j h i)
 
+-- the number that is read of a chunk is the word at its place
+pub word_read : (bs : List ℕ) (cs : List (List ℕ)) (w k : ℕ) → length bs ≡ 64 → k < 8 → cs ≡ first_chunks 8 (length bs / 8) bs → w ≡ from_le_bytes w64 (get_or cs k []) → w ≡ word_at bs k
+word_read bs cs w k long h e is =
+    is ∙ ap (λ xs. from_le_bytes w64 (get_or xs k [])) (e ∙ ap (λ n. first_chunks 8 (n / 8) bs) long) ∙ chunk_word bs k h
+
 -- what unpack has read of the bytes: a cluster, and the words of the entries
 pub record Read (bs : List ℕ) (c : ℕ) (ws : List ℕ) : Type 0 where
   pub eight : length ws ≡ 8
   pub small : c < 2 ^ (cluster_bits * 8)
   pub parts : (i : ℕ) → i < 8 → cluster_part c i ≡ word_at bs i / 2 ^ content_bits
   pub words : (i : ℕ) → i < 8 → get_or ws i 0 ≡ word_at bs i % 2 ^ content_bits
+
+-- what unpack has read of the bytes as far as a word: the cluster's parts there, and the entries
+pub record ReadTo (bs : List ℕ) (c : ℕ) (es : List Entry) (k : ℕ) : Type 0 where
+  pub small : c < 2 ^ (cluster_bits * k)
+  pub parts : (i : ℕ) → i < k → cluster_part c i ≡ word_at bs i / 2 ^ content_bits
+  pub filled : FilledTo (λ i. word_at bs i % 2 ^ content_bits) es k
+
+pub read_all : (bs : List ℕ) (c : ℕ) (es : List Entry) (k : ℕ) → k ≡ 8 → ReadTo bs c es k → Read bs c (map word_of es)
+read_all bs c es k e r = record {
+  eight = length-map es word_of ∙ r.filled.eight;
+  small = subst (λ n. c < 2 ^ (cluster_bits * n)) e r.small;
+  parts = λ i h. r.parts i (omega arith);
+  words = λ i h. get_or-map word_of es i None 0 (omega (arith, r.filled.eight)) ∙ r.filled.words i (omega arith);
+}
 
 -- the word at a place, of a line's entries
 word_of_entry : (l : Line) (i : ℕ) → i < 8 → get_or (map word_of l.entries) i 0 ≡ word_of (entry_at l i)
@@ -86,6 +129,13 @@ only_record l bs c ws r e =
     (λ i h. let p : i < 8 = omega (arith, length-map l.entries word_of, l.ok.1) in
     word_of_entry l i p ∙ sym (packed_word_low l i) ∙ sym (ap (λ w. w % 2 ^ content_bits) (packed-word_at l bs e i p)) ∙ sym (r.words i p)) in
     cc
+
+-- so it has the cluster and the entries that were read
+pub only_cluster : (l : Line) (bs : List ℕ) (c : ℕ) (es : List Entry) → Read bs c (map word_of es) → packed l ≡ bs → l.cluster ≡ c
+only_cluster l bs c es r e = (record_holds l c es (only_record l bs c (map word_of es) r e)).cluster
+
+pub only_entries : (l : Line) (bs : List ℕ) (c : ℕ) (es : List Entry) → Read bs c (map word_of es) → packed l ≡ bs → l.entries ≡ es
+only_entries l bs c es r e = (record_holds l c es (only_record l bs c (map word_of es) r e)).entries
 
 split_bytes : (bs : List ℕ) → ((i : ℕ) → get_or bs i 0 < 256) → (k j : ℕ) → j < 8 → byte_of (word_at bs k) j ≡ get_or bs (8 * k + j) 0
 split_bytes bs fit k j h =
@@ -123,7 +173,7 @@ pub packs_apart : (k l : Line) → packed k ≡ packed l → k ≡ l
 packs_apart k l e = records_apart k l (only_record k _ _ _ (read_packed l) e)
 
 -- a packed line unpacks to itself
-unpacks_back : (r : Result Line LineFault) (bs : List ℕ) → Unpacked bs r → (l : Line) → packed l ≡ bs → r ≡ Ok l
+pub unpacks_back : (r : Result Line LineFault) (bs : List ℕ) → Unpacked bs r → (l : Line) → packed l ≡ bs → r ≡ Ok l
 unpacks_back (Ok m) bs h l e = ap Ok (packs_apart m l (h ∙ sym e))
 unpacks_back (Err x) bs h l e = absurd (h.1 l e)
 
@@ -139,7 +189,8 @@ right bs r said = record { said = said; back = unpacks_back r bs said }
 pub refused : (bs : List ℕ) → ((l : Line) → packed l ≡ bs → ⊥) → Right bs (Err NotALine)
 refused bs none = right bs (Err NotALine) (refl, none)
 
--- what comes of looking for the line of the record that was read is right
-pub unpacked : (bs : List ℕ) (c : ℕ) (ws : List ℕ) → length bs ≡ 64 → ((i : ℕ) → get_or bs i 0 < 256) → Read bs c ws → (o : Option Line) → MatchOption o (NoRecord (c ∷ ws)) (λ l. record_of l ≡ c ∷ ws) → Right bs (ok_or o NotALine)
-unpacked bs c ws long fit r None none = refused bs (λ l e. none l (only_record l bs c ws r e))
-unpacked bs c ws long fit r (Some l) is = right bs (Ok l) (packs_back l bs long fit (subst (Read bs l.cluster) (cc is) (subst (λ n. Read bs n ws) (cc is) r)))
+-- what comes of looking for the line of what was read is right
+pub unpacked : (bs : List ℕ) (c : ℕ) (es : List Entry) → length bs ≡ 64 → ((i : ℕ) → get_or bs i 0 < 256) → Read bs c (map word_of es) → (o : Option Line) → MatchOption o (NoLine c es) (λ l. Holds l c es) → Right bs (ok_or o NotALine)
+unpacked bs c es long fit r None none = refused bs (λ l e. none l (record { cluster = only_cluster l bs c es r e; entries = only_entries l bs c es r e }))
+unpacked bs c es long fit r (Some l) holds =
+    right bs (Ok l) (packs_back l bs long fit (subst (λ n. Read bs n (map word_of l.entries)) (sym holds.cluster) (subst (λ xs. Read bs c (map word_of xs)) (sym holds.entries) r)))

@@ -6,7 +6,7 @@ use Rattle.lines.specs.Lines.{empty_line, no_entries, Holds}
 use Rattle.lines.specs.Packs.{packed}
 use Rattle.lines.proofs.Bytes.{packs_apart}
 use Rattle.lines.proofs.Recorded.{records_apart}
-use Rattle.lines.proofs.Same.{same_line}
+use Rattle.lines.specs.Same.{same_line}
 
 -- a form that tells lines apart is decoded to the line written in it
 found_line : (form : Line → List ℕ) → ((k l : Line) → form k ≡ form l → k ≡ l) → (ns : List ℕ) (d : Decoded form ns) (l : Line) → form l ≡ ns → line_found form ns d ≡ l

@@ -1,42 +1,36 @@
--- A number and its parts: of five bits each, put together from the last; and of any number of bits, which tell it apart.
-use Rattle.std.proofs.Common.{◌≡◌, ℕ, zero, suc, ◌+◌, ◌*◌, ◌/◌, ◌%◌, ◌^◌, ◌<◌, ◌≤◌, List, [], ◌∷◌, length, get_or, sym, ap, ◌∙◌, mod-eq_of_lt, mul-zero, mul-suc, arith}
-use Rattle.std.proofs.lemmas.Nat.{mod-pow-add, pow-add}
-use Rattle.std.proofs.Math.Nat.{div-div-eq-div-mul}
-use Rattle.std.proofs.Math.Pow.{pow_mono}
-use Rattle.lines.specs.Packs.{part_of, cluster_bits, content_bits, cluster_part}
+-- A number and its parts of some bits each, whatever that number of bits.
+use Rattle.std.proofs.Common.{◌≡◌, ℕ, zero, suc, ◌+◌, ◌-◌, ◌*◌, ◌/◌, ◌%◌, ◌^◌, ◌<◌, sym, ap, ◌∙◌, mod-eq_of_lt, mul_assoc, mul-zero, mul-one, mul-suc, mul-add, arith}
+use native.Mathlib.Nat.{add-mul-div_right, add-mul-mod_self_right}
+use Rattle.std.proofs.lemmas.Nat.{mod-pow-add, mul-add-lt, pow-add, pow_pos, shr_high}
+use Rattle.lines.specs.Packs.{part_of}
 
--- words, the first of which holds the lowest part, and the number that their parts make
-abbrev pub Joined : List ℕ → ℕ → Type 0
-Joined ws n =
-    length ws ≤ 8
-    → ((i : ℕ) → get_or ws i 0 < 2 ^ 64)
-    → (n < 2 ^ (cluster_bits * length ws)) × ((k : ℕ) → k < length ws → cluster_part n k ≡ get_or ws k 0 / 2 ^ content_bits)
+-- a part put above those below it is read there
+pub part_here : (b c t k : ℕ) → c < 2 ^ (b * k) → t < 2 ^ b → part_of b (c + t * 2 ^ (b * k)) k ≡ t
+part_here b c t k p q =
+    let e : (c + t * 2 ^ (b * k)) / 2 ^ (b * k) ≡ t = ap (λ n. n / 2 ^ (b * k)) (omega arith) ∙ shr_high t (b * k) c p in
+    ap (λ n. n % 2 ^ b) e ∙ mod-eq_of_lt q
 
--- a part put below those above it is read first
-part_next : (n t k : ℕ) → t < 32 → cluster_part (n * 32 + t) (suc k) ≡ cluster_part n k
-part_next n t k h =
-    let e : 2 ^ (cluster_bits * suc k) ≡ 32 * 2 ^ (cluster_bits * k) = ap (λ j. 2 ^ j) (omega (arith, mul-suc cluster_bits k)) ∙ pow-add 2 5 (cluster_bits * k) in
-    let d : (n * 32 + t) / 32 ≡ n = omega arith in
-    ap (λ p. (n * 32 + t) / p % 32) e ∙ ap (λ q. q % 32) (sym (div-div-eq-div-mul (n * 32 + t) 32 (2 ^ (cluster_bits * k)))) ∙ ap (λ q. q / 2 ^ (cluster_bits * k) % 32) d
+-- and leaves those below it as they were
+pub part_below : (b c t k i : ℕ) → i < k → part_of b (c + t * 2 ^ (b * k)) i ≡ part_of b c i
+part_below b c t k i p =
+    let j : ℕ = k - i - 1 in
+    let r : k ≡ j + 1 + i = omega arith in
+    let s : b * k ≡ b * j + b + b * i =
+    ap (λ n. b * n) r ∙ mul-add b (j + 1) i ∙ ap (λ n. n + b * i) (mul-add b j 1 ∙ ap (λ n. b * j + n) (mul-one b)) in
+    let e : t * 2 ^ (b * k) ≡ t * 2 ^ (b * j) * 2 ^ b * 2 ^ (b * i) =
+    ap (λ n. t * 2 ^ n) s
+    ∙ ap (λ n. t * n) (pow-add 2 (b * j + b) (b * i) ∙ ap (λ n. n * 2 ^ (b * i)) (pow-add 2 (b * j) b))
+    ∙ sym (mul_assoc t (2 ^ (b * j) * 2 ^ b) (2 ^ (b * i)))
+    ∙ ap (λ n. n * 2 ^ (b * i)) (sym (mul_assoc t (2 ^ (b * j)) (2 ^ b))) in
+    ap (λ n. (c + n) / 2 ^ (b * i) % 2 ^ b) e
+    ∙ ap (λ n. n % 2 ^ b) (add-mul-div_right c (t * 2 ^ (b * j) * 2 ^ b) (pow_pos (b * i)))
+    ∙ add-mul-mod_self_right (c / 2 ^ (b * i)) (t * 2 ^ (b * j)) (2 ^ b)
 
-pub joined_none : Joined [] 0
-joined_none long fits = (omega arith, λ k h. absurd (omega arith))
-
--- the parts of a number that was made of a last word and the words above it
-part_below_parts : (ws : List ℕ) (n w : ℕ) → w < 2 ^ 64 → ((k : ℕ) → k < length ws → cluster_part n k ≡ get_or ws k 0 / 2 ^ content_bits) → (k : ℕ) → k < length (w ∷ ws) → cluster_part (n * 32 + w / 2 ^ content_bits) k ≡ get_or (w ∷ ws) k 0 / 2 ^ content_bits
-part_below_parts ws n w small parts zero h = omega arith
-part_below_parts ws n w small parts (suc k) h = part_next n (w / 2 ^ content_bits) k (omega arith) ∙ parts k (omega arith)
-
--- one more word, below those that are joined
-pub joined_more : (ws : List ℕ) (n w m : ℕ) → Joined ws n → m ≡ n * 2 ^ cluster_bits % 2 ^ 64 + w / 2 ^ content_bits → Joined (w ∷ ws) m
-joined_more ws n w m joined is long fits =
-    let low = joined (omega arith) (λ i. fits (suc i)) in
-    let last : w < 2 ^ 64 = fits 0 in
-    let bound : n < 2 ^ 35 = let p : 2 ^ (cluster_bits * length ws) ≤ 2 ^ 35 = pow_mono {i = cluster_bits * length ws} {j = 35} (omega arith) in omega (arith, low.0) in
-    let e : m ≡ n * 32 + w / 2 ^ content_bits = omega arith in
-    let more : 2 ^ (cluster_bits * suc (length ws)) ≡ 32 * 2 ^ (cluster_bits * length ws) =
-    ap (λ j. 2 ^ j) (omega (arith, mul-suc cluster_bits (length ws))) ∙ pow-add 2 5 (cluster_bits * length ws) in
-    (omega (arith, low.0), λ k h. ap (λ x. cluster_part x k) e ∙ part_below_parts ws n w last low.1 k h)
+pub parts_more : (b c t k : ℕ) → c < 2 ^ (b * k) → t < 2 ^ b → c + t * 2 ^ (b * k) < 2 ^ (b * (k + 1))
+parts_more b c t k p q =
+    let e : b * (k + 1) ≡ b * k + b = mul-add b k 1 ∙ ap (λ n. b * k + n) (mul-one b) in
+    let f : 2 ^ (b * (k + 1)) ≡ 2 ^ (b * k) * 2 ^ b = ap (λ n. 2 ^ n) e ∙ pow-add 2 (b * k) b in
+    omega (arith, f, mul-add-lt t (2 ^ (b * k)) c (2 ^ b) q p)
 
 low_same : (b c d n : ℕ) → ((i : ℕ) → i < n → part_of b c i ≡ part_of b d i) → c % 2 ^ (b * n) ≡ d % 2 ^ (b * n)
 low_same b c d zero e =

@@ -1,5 +1,6 @@
 -- Which entries are present, and the words that tell entries apart.
-use Rattle.std.proofs.Common.{◌≡◌, ℕ, zero, suc, ◌^◌, ◌<◌, true, false, List, [], ◌∷◌, length, set, replicate, Decides, refl, ap, ◌∙◌, arith}
+use Rattle.std.proofs.Common.{◌≡◌, ℕ, zero, suc, ◌^◌, ◌<◌, true, false, eqb, List, [], ◌∷◌, length, set, replicate, Decides, refl, ap, ◌∙◌, arith}
+use Rattle.std.proofs.lemmas.Bool.Decides.{Decides-eqb}
 use borrow.Author.Tests.{not-true}
 use Rattle.lines.specs.Entries.{Entry}
 use Rattle.std.specs.Prelude.{Some, None}
@@ -7,7 +8,7 @@ use Rattle.lines.specs.declared.entries.Mapping.{Mapping}
 use Rattle.lines.specs.declared.rows.Line.{Line}
 use Rattle.lines.specs.Entries.{word_of, any_present}
 use Rattle.lines.specs.Lines.{empty_line, filled, is_empty}
-use Rattle.lines.proofs.Same.{same_mapping, same_line}
+use Rattle.lines.specs.Same.{same_mapping, same_line}
 
 pub any_set : (es : List Entry) (i : ℕ) (m : Mapping) → i < length es → any_present (set es i (Some m)) ≡ true
 any_set [] i m h = absurd (omega arith)
@@ -48,3 +49,7 @@ same_word None None h = refl
 same_word None (Some n) h = absurd (omega arith)
 same_word (Some m) None h = absurd (omega arith)
 same_word (Some m) (Some n) h = ap Some (same_mapping m n (omega arith) (omega arith))
+
+-- entries are told apart by their words
+pub entry_decides : (e f : Entry) → Decides (eqb (word_of e) (word_of f)) (e ≡ f)
+entry_decides e f = let d = Decides-eqb (word_of e) (word_of f) in (λ t. same_word e f (d.0 t), λ p. d.1 (ap word_of p))

@@ -1,15 +1,15 @@
 -- Entries and lines by the words of the entries.
-use Rattle.std.proofs.Common.{◌≡◌, ℕ, ◌<◌, List, [], ◌∷◌, map, length, Ok, Err, Result, refl, sym, ap, ◌∙◌, subst, get_or, arith}
-use Rattle.std.specs.List.{AllZip, IsAmong}
-use Rattle.std.specs.Prelude.{Option, Some, None, MatchOption, IfOk, IfErr}
-use Rattle.std.specs.Result.{result_ok}
-use Rattle.std.proofs.lemmas.List.{get_or-map, length-map}
+use Rattle.std.proofs.Common.{◌≡◌, ℕ, ◌+◌, ◌<◌, ◌≤◌, List, [], ◌∷◌, map, length, set, refl, sym, ap, ◌∙◌, subst, get_or, arith, length-set, get_or-set_other, get_or-set_same, below_more}
+use Rattle.std.proofs.Math.Decide.{dec_lt}
+use Rattle.std.proofs.lemmas.List.{ext_get_or, get_or-map, get_or-replicate, get_or_past, length-map}
+use Rattle.std.specs.Prelude.{Option, Some, None, MatchOption}
+use Rattle.lines.specs.declared.entries.Mapping.{Mapping}
 use Rattle.lines.specs.declared.rows.Line.{Line}
 use Rattle.lines.specs.Decoded.{record_of, NoRecord}
 use Rattle.lines.specs.Entries.{Entry, word_of, NoEntry, NoEntries}
-use Rattle.lines.specs.Lines.{Holds, NoLine}
+use Rattle.lines.specs.Lines.{Holds, NoLine, no_entries}
 use Rattle.lines.proofs.Present.{same_word}
-use Rattle.lines.proofs.Same.{same_line}
+use Rattle.lines.specs.Same.{same_line}
 
 same_words : (es fs : List Entry) → map word_of es ≡ map word_of fs → es ≡ fs
 same_words [] [] h = refl
@@ -25,23 +25,50 @@ record_holds l c es e = record { cluster = cc; entries = same_words l.entries es
 pub records_apart : (k l : Line) → record_of k ≡ record_of l → k ≡ l
 records_apart k l e = let held = record_holds k l.cluster l.entries e in same_line k l held.cluster held.entries
 
--- entries that have the words, one by one
-pub words_zip : (R : ℕ → Entry → Type 0) (ws : List ℕ) (es : List Entry) → AllZip R ws es → ((w : ℕ) (e : Entry) → R w e → word_of e ≡ w) → map word_of es ≡ ws
-words_zip R [] [] z h = refl
-words_zip R [] (e ∷ es) z h = absurd z
-words_zip R (w ∷ ws) [] z h = absurd z
-words_zip R (w ∷ ws) (e ∷ es) (r, z) h = let head = h w e r in let tail = words_zip R ws es z h in cc
-
 -- no entries have words one of which is no entry's
-pub none_has : (ws : List ℕ) (w : ℕ) → IsAmong ws w → NoEntry w → NoEntries ws
-none_has ws w at none es e =
-    let here : at.0 < length es = omega (arith, ap length e, length-map es word_of, at.1.0) in
-    none (get_or es at.0 None) (sym (get_or-map word_of es at.0 None w here) ∙ ap (λ xs. get_or xs at.0 w) e ∙ sym at.1.1)
+pub none_at : (ws : List ℕ) (k : ℕ) → k < length ws → NoEntry (get_or ws k 0) → NoEntries ws
+none_at ws k h none es e =
+    let here : k < length es = omega (arith, ap length e, length-map es word_of) in
+    none (get_or es k None) (sym (get_or-map word_of es k None 0 here) ∙ ap (λ xs. get_or xs k 0) e)
 
--- what comes of looking for the entries of words
-pub of_words : {E : Type 0} (ws : List ℕ) (P : List Entry → Type 0) (N : E → Type 0) (r : Result (List Entry) E) (o : Option (List Entry)) → o ≡ result_ok r → IfOk r P → IfErr r N → ((es : List Entry) → P es → map word_of es ≡ ws) → ((e : E) → N e → NoEntries ws) → MatchOption o (NoEntries ws) (λ es. map word_of es ≡ ws)
-of_words ws P N (Ok es) o e ok err there none = subst (λ o. MatchOption o (NoEntries ws) (λ es. map word_of es ≡ ws)) (sym e) (there es ok)
-of_words ws P N (Err x) o e ok err there none = subst (λ o. MatchOption o (NoEntries ws) (λ es. map word_of es ≡ ws)) (sym e) (none x err)
+-- eight entries, of which those below a place have these words, and from there on there are none
+pub record FilledTo (w : ℕ → ℕ) (es : List Entry) (k : ℕ) : Type 0 where
+  pub eight : length es ≡ 8
+  pub words : (i : ℕ) → i < k → word_of (get_or es i None) ≡ w i
+  pub bare : (i : ℕ) → k ≤ i → get_or es i None ≡ None
+
+pub none_filled : (w : ℕ → ℕ) → FilledTo w no_entries 0
+none_filled w = record {
+  eight = refl;
+  words = λ i h. absurd (omega arith);
+  bare = λ i h. elim (dec_lt i 8) [ yes le ↦ get_or-replicate 8 i None None le | no out ↦ get_or_past no_entries i None (omega arith) ];
+}
+
+-- one place further, with the entry of its word there
+pub filled_more : (w : ℕ → ℕ) (es fs : List Entry) (k : ℕ) (m : Mapping) → k < 8 → word_of (Some m) ≡ w k → FilledTo w es k → fs ≡ set es k (Some m) → FilledTo w fs (k + 1)
+filled_more w es fs k m h is f e =
+    let here : k < length es = omega (arith, f.eight) in
+    subst (λ xs. FilledTo w xs (k + 1)) (sym e) (record {
+      eight = length-set es k (Some m) ∙ f.eight;
+      words = below_more _ _ (λ i l. ap word_of (get_or-set_other es k i (Some m) None (omega arith)) ∙ f.words i l) (ap word_of (get_or-set_same es k (Some m) None here) ∙ is);
+      bare = λ i l. get_or-set_other es k i (Some m) None (omega arith) ∙ f.bare i (omega arith);
+    })
+
+-- one place further, where its word is that of no entry present
+pub filled_past : (w : ℕ → ℕ) (es fs : List Entry) (k : ℕ) → word_of None ≡ w k → FilledTo w es k → fs ≡ es → FilledTo w fs (k + 1)
+filled_past w es fs k is f e =
+    subst (λ xs. FilledTo w xs (k + 1)) (sym e) (record {
+      eight = f.eight;
+      words = below_more _ _ f.words (ap word_of (f.bare k (omega arith)) ∙ is);
+      bare = λ i l. f.bare i (omega arith);
+    })
+
+-- all eight have their words
+pub filled_words : (ws : List ℕ) (es : List Entry) (k : ℕ) → 8 ≤ k → length ws ≡ 8 → FilledTo (λ i. get_or ws i 0) es k → map word_of es ≡ ws
+filled_words ws es k all long f =
+    ext_get_or 0 (map word_of es) ws (omega (arith, length-map es word_of, f.eight))
+    (λ i h. let l : i < 8 = omega (arith, length-map es word_of, f.eight) in
+    get_or-map word_of es i None 0 (omega (arith, f.eight)) ∙ f.words i (omega arith))
 
 -- what comes of looking for the line of a cluster and these entries
 pub recorded : (c : ℕ) (ws : List ℕ) (es : List Entry) → map word_of es ≡ ws → (o : Option Line) → MatchOption o (NoLine c es) (λ l. Holds l c es) → MatchOption o (NoRecord (c ∷ ws)) (λ l. record_of l ≡ c ∷ ws)

@@ -7,3 +7,5 @@ pub mod Refusals
 pub mod Laws
 pub mod Finite
 pub mod Decoded
+pub mod Same
+pub mod Equal

@@ -1,7 +1,7 @@
 // Making a line, looking into it, and the lines that come of setting or clearing an entry.
 ghost use Rattle.std.specs.Prelude.{◌≡◌, ◌∷◌, map, slice_set, MatchOption};
 ghost use Rattle.lines.specs.Decoded.{record_of, NoRecord};
-ghost use Rattle.lines.specs.Entries.{any_present, word_of, NoEntries};
+ghost use Rattle.lines.specs.Entries.{any_present, word_of};
 ghost use Rattle.lines.specs.Numbers.{cluster_of, position_of};
 ghost use Rattle.lines.specs.Lines.{entry_at, is_empty, is_of, filled, cleared, no_entries, Holds, NoLine, cluster_left};
 
@@ -18,22 +18,14 @@ fn any_present(entries: &[Entry; 8]) -> bool
     entries.iter().any(Option::is_some)
 }
 
-// the entries that have these words, where there are such
-fn entries_of(words: [u64; 8]) -> Option<[Entry; 8]>
-    ensures { MatchOption result (NoEntries words) (λ es. map word_of es ≡ words) }
-{
-    words.try_map(|word| entry_from_word(word).ok_or(())).ok()
-}
-
-// the entries with that at a position replaced; there is none past the eighth
-fn with_entry(mut entries: [Entry; 8], position: usize, entry: Entry) -> [Entry; 8]
-    ensures { result ≡ slice_set entries position entry }
+// replaces the entry at a position; there is none past the eighth
+fn set_entry(entries: &mut [Entry; 8], position: usize, entry: Entry)
+    ensures { entries.new ≡ slice_set entries.old position entry }
 {
     // Tried: after `get_mut` a proof knows nothing of the elements.
     if position < entries.len() {
         entries[position] = entry;
     }
-    entries
 }
 
 impl Line {
@@ -63,9 +55,11 @@ impl Line {
     pub fn only(page: Page, mapping: Mapping) -> Line
         ensures { Holds result (cluster_of page.number) (filled no_entries (position_of page.number) mapping) }
     {
+        let mut entries = [None; 8];
+        set_entry(&mut entries, page.position(), Some(mapping));
         Line {
             cluster: page.cluster(),
-            entries: with_entry([None; 8], page.position(), Some(mapping)),
+            entries,
         }
     }
 
@@ -100,16 +94,28 @@ impl Line {
     pub fn from_words(cluster: u64, words: [u64; 8]) -> Option<Line>
         ensures { MatchOption result (NoRecord (cluster ∷ words)) (λ l. record_of l ≡ cluster ∷ words) }
     {
-        Line::new(cluster, entries_of(words)?)
+        let mut entries = [None; 8];
+        for (k, word) in words.iter().enumerate() {
+            // Tried: with `?`, or with every entry written whole, it takes twice the time.
+            let Some(entry) = entry_from_word(*word) else {
+                return None;
+            };
+            if let Some(mapping) = entry {
+                entries[k] = Some(mapping);
+            }
+        }
+        Line::new(cluster, entries)
     }
 
     // the line of the same cluster with the entry at a position set; there is none past the eighth
     pub fn with(&self, position: usize, mapping: Mapping) -> Line
         ensures { Holds result self.now.cluster (filled self.now.entries position mapping) }
     {
+        let mut entries = self.entries;
+        set_entry(&mut entries, position, Some(mapping));
         Line {
             cluster: self.cluster,
-            entries: with_entry(self.entries, position, Some(mapping)),
+            entries,
         }
     }
 
@@ -117,7 +123,8 @@ impl Line {
     pub fn without(&self, position: usize) -> Line
         ensures { Holds result (cluster_left self.now.cluster (cleared self.now.entries position)) (cleared self.now.entries position) }
     {
-        let entries = with_entry(self.entries, position, None);
+        let mut entries = self.entries;
+        set_entry(&mut entries, position, None);
         let cluster = if any_present(&entries) {
             self.cluster
         } else {

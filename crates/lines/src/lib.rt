@@ -3,6 +3,7 @@
 
 pub mod edits;
 pub mod entries;
+pub mod exact;
 pub mod faults;
 pub mod laws;
 pub mod numbers;
@@ -12,6 +13,7 @@ pub mod unpacks;
 pub mod words;
 
 pub use entries::{Entry, Mapping};
+pub use exact::ExactEq;
 pub use faults::LineFault;
 pub use numbers::{Address, Page};
 pub use rows::Line;

@@ -1,7 +1,7 @@
 // A line as 64 bytes.
 ghost use Rattle.std.specs.Prelude.{◌≡◌, ◌<◌};
 ghost use Rattle.lines.specs.declared.rows.Line.{Line as ALine};
-ghost use Rattle.lines.specs.Packs.{byte_of, packed_word, packed};
+ghost use Rattle.lines.specs.Packs.{packed_word, packed};
 
 use crate::rows::Line;
 use crate::words::entry_word;
@@ -11,14 +11,6 @@ use std::array;
 pub const CLUSTER_BITS: usize = 5;
 // how many bits lie below them
 pub const CONTENT_BITS: usize = 64 - CLUSTER_BITS;
-
-// a byte of a word, the lowest first
-fn byte_of(word: u64, j: usize) -> u8
-    requires { j < 8 }
-    ensures { result ≡ byte_of word j }
-{
-    word.to_le_bytes()[j]
-}
 
 impl Line {
     fn packed_word(&self, k: usize) -> u64
@@ -35,6 +27,8 @@ impl Line {
         ensures apart { (l : ALine) → packed l ≡ result → l ≡ self.now }
     {
         let words: [u64; 8] = array::from_fn(|k| self.packed_word(k));
-        array::from_fn(|b| byte_of(words[b / 8], b % 8))
+        let mut bytes = [0; 64];
+        bytes.copy_from_slice(words.map(u64::to_le_bytes).as_flattened());
+        bytes
     }
 }

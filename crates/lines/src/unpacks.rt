@@ -1,23 +1,13 @@
 // The line that bytes are the packed form of.
-ghost use Rattle.std.specs.Prelude.{◌≡◌, ℕ, ◌/◌, ◌^◌, ◌<◌, slice_index, Ok};
+ghost use Rattle.std.specs.Prelude.{◌≡◌, Ok};
 ghost use Rattle.lines.specs.declared.rows.Line.{Line as ALine};
-ghost use Rattle.lines.specs.Packs.{cluster_part, content_bits, packed};
+ghost use Rattle.lines.specs.Packs.{packed};
 ghost use Rattle.lines.specs.Refusals.{Unpacked};
 
 use crate::faults::LineFault;
 use crate::packs::{CLUSTER_BITS, CONTENT_BITS};
 use crate::rows::Line;
-use std::array;
-
-// the cluster whose parts stand at the tops of the words
-fn cluster_in(words: &[u64; 8]) -> u64
-    ensures small { result < 2 ^ 40 }
-    ensures parts { (k : ℕ) → k < 8 → cluster_part result k ≡ slice_index words.now k / 2 ^ content_bits }
-{
-    words.iter().rev().fold(0, |cluster, word| {
-        (cluster << CLUSTER_BITS) + (word >> CONTENT_BITS)
-    })
-}
+use crate::words::entry_from_word;
 
 impl Line {
     // A packed line unpacks to itself, and what unpacks is the packed form of the answer. It stands beside `pack`, for the reason given there.
@@ -28,9 +18,23 @@ impl Line {
         if bytes.len() != 64 {
             return Err(LineFault::NotALine);
         }
+        let mut cluster = 0;
+        let mut entries = [None; 8];
         let (chunks, _) = bytes.as_chunks::<8>();
-        let words: [u64; 8] = array::from_fn(|k| u64::from_le_bytes(chunks[k]));
-        let contents = words.map(|word| word % (1 << CONTENT_BITS));
-        Line::from_words(cluster_in(&words), contents).ok_or(LineFault::NotALine)
+        // Tried: with `?` and `ok_or`, or with every entry written whole, it takes twice the time.
+        for (k, chunk) in chunks.iter().enumerate() {
+            let word = u64::from_le_bytes(*chunk);
+            let Some(entry) = entry_from_word(word % (1 << CONTENT_BITS)) else {
+                return Err(LineFault::NotALine);
+            };
+            if let Some(mapping) = entry {
+                entries[k] = Some(mapping);
+            }
+            cluster += (word >> CONTENT_BITS) << (CLUSTER_BITS * k);
+        }
+        let Some(line) = Line::new(cluster, entries) else {
+            return Err(LineFault::NotALine);
+        };
+        Ok(line)
     }
 }

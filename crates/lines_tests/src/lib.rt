@@ -1,4 +1,4 @@
-// Tests of pages, lines and packed lines: the ends of each range, damaged bytes, and edits of a line.
+// Tests of pages, lines and packed lines: the ends of each range, damaged bytes, edits of a line, and what `==` tells.
 #![tactic(auto)]
 
 #[cfg(test)]
@@ -7,3 +7,5 @@ mod edited;
 mod packed;
 #[cfg(test)]
 mod ranges;
+#[cfg(test)]
+mod same;

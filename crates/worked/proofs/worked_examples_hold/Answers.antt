@@ -13,7 +13,7 @@ use Rattle.lines.specs.Entries.{word_of}
 use Rattle.lines.specs.Lines.{entry_at}
 use Rattle.lines.specs.Packs.{packed, content_bits}
 use Rattle.lines.proofs.Bytes.{packed-word_at, packed_word_low}
-use Rattle.lines.proofs.Same.{same_line, same_mapping}
+use Rattle.lines.specs.Same.{same_line, same_mapping}
 use Rattle.families.specs.Tables.{table_at}
 use Rattle.families.specs.Words.{rotl}
 use Rattle.worked.proofs.worked_examples_hold.Goals as goal

@@ -1,5 +1,5 @@
 -- What the search leaves to show of `line_laws_hold`.
-use Rattle.lines.proofs.Equal.{address_decides, page_decides, mapping_decides, entry_decides, line_decides}
+use Rattle.lines.specs.Equal.{address_decides, page_decides, mapping_decides, entry_decides, line_decides}
 use Rattle.lines.proofs.Present.{decides_empty, same_word}
 use Rattle.lines.proofs.laws.line_laws_hold.Goals as goal
 

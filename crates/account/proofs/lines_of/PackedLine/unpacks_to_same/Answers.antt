@@ -1,6 +1,6 @@
 -- What the search leaves to show of `unpacks_to_same`.
 use Rattle.std.proofs.Common.{refl, sym, ◌∙◌}
-use Rattle.lines.proofs.Equal.{line_decides}
+use Rattle.lines.specs.Equal.{line_decides}
 use Rattle.account.proofs.lines_of.PackedLine.unpacks_to_same.Goals as goal
 
 pub returns : goal.returns

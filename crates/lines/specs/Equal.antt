@@ -9,7 +9,7 @@ use Rattle.lines.specs.declared.numbers.Page.{Page}
 use Rattle.lines.specs.declared.rows.Line.{Line}
 use Rattle.lines.specs.Entries.{Entry}
 use Rattle.lines.specs.Laws.{address_eq, page_eq, mapping_eq, entry_eq, line_eq}
-use Rattle.lines.proofs.Same.{same_address, same_page, same_mapping, same_line}
+use Rattle.lines.specs.Same.{same_address, same_page, same_mapping, same_line}
 
 both_decide : {P Q : Type 0} (a b : Bool) → Decides a P → Decides b Q → Decides (a && b) (P × Q)
 both_decide true true p q = (λ _. (p.0 refl, q.0 refl), λ _. refl)
