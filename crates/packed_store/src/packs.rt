@@ -48,7 +48,7 @@ impl RowForm for Packs {
     ghost blank_row = { packed_line-packed empty_line (replicate 64 0) packed_empty };
 
     fn line_of(row: &[u8]) -> Line {
-        Line::unpack(row).unwrap_or(Line::empty())
+        Line::unpack(row).unwrap_or_else(|_| Line::empty())
     }
 
     fn put(row: &mut [u8], line: &Line) {

@@ -1,18 +1,18 @@
 -- The line of a record.
-use Rattle.std.proofs.Common.{◌≡◌, ℕ, List, [], ◌∷◌, length, get_or, Some, None, unwrap_or, sym, ap, ◌∙◌, arith}
+use Rattle.std.proofs.Common.{◌≡◌, ℕ, List, [], ◌∷◌, length, get_or, Some, None, sym, ap, ◌∙◌, arith}
 use Rattle.std.proofs.lemmas.Slice.{first_rest}
 use Rattle.std.specs.List.{between}
 use Rattle.std.specs.Option.{MatchOption}
 use Rattle.std.specs.Prelude.{Option}
 use Rattle.lines.specs.declared.rows.Line.{Line}
 use Rattle.lines.specs.Decoded.{NoRecord, record_of, recorded_line}
-use Rattle.lines.specs.Lines.{empty_line}
-use Rattle.lines.proofs.Decoding.{recorded_line-record, recorded_none}
+use Rattle.lines.specs.Lines.{empty_line, no_entries, Holds}
+use Rattle.lines.proofs.Decoding.{holds_nothing, recorded_line-record, recorded_none}
 
 -- a line found for a record, or else the empty line
-pub line_found : (ns : List ℕ) (r : Option Line) (none : Line) → MatchOption r (NoRecord ns) (λ l. record_of l ≡ ns) → none ≡ empty_line → unwrap_or r none ≡ recorded_line ns
-line_found ns (Some l) none found empty = sym (recorded_line-record l ns found)
-line_found ns None none found empty = empty ∙ sym (recorded_none ns found)
+pub line_found : (ns : List ℕ) (r : Option Line) (l : Line) → MatchOption r (NoRecord ns) (λ k. record_of k ≡ ns) → MatchOption r (Holds l 0 no_entries) (λ k. l ≡ k) → l ≡ recorded_line ns
+line_found ns (Some k) l found is = is ∙ sym (recorded_line-record k ns found)
+line_found ns None l found nothing = holds_nothing l nothing ∙ sym (recorded_none ns found)
 
 -- no number is no record
 pub nothing_recorded : recorded_line [] ≡ empty_line

@@ -1,11 +1,13 @@
 -- Records as rows of memory, what a store on them holds, and what its calls leave in them.
-use Rattle.std.specs.Prelude.{◌≡◌, ℕ, ◌+◌, ◌*◌, ◌<◌, List, [], ◌∷◌, length, drop, replicate, slice_index_or, slice_set, refl}
+use Rattle.std.specs.Prelude.{◌≡◌, ℕ, ◌+◌, ◌*◌, ◌<◌, List, [], ◌∷◌, Result, is_ok, if◌then◌else◌, length, drop, replicate, slice_index_or, slice_set, refl}
 use Rattle.std.proofs.Common.{arith}
 use Rattle.std.proofs.Math.Seq.{paste}
 use Rattle.lines.specs.declared.rows.Line.{Line}
 use Rattle.lines.specs.Decoded.{record_of, recorded_line}
+use Rattle.stores.specs.Refusals.{refusal, row_refusal}
 use Rattle.stores.specs.Stores.{RowsPerChunk, Store}
 use Rattle.stores.specs.Views.{chunks_in, out_of, view}
+use Rattle.stores.specs.declared.faults.StoreFault.{StoreFault}
 use Rattle.stores.specs.declared.marks.Marks.{Marks}
 use Rattle.lent_store.specs.Memory as memory
 
@@ -64,3 +66,5 @@ pub record RecordLaws : Type 0 where
   pub shows : (m : Marks) (mem : List (List ℕ)) → view rows_per_chunk (out_of (memory.chunk_count rows_per_chunk records_per_row mem) m) (memory.line_at records_per_row row_line mem) ≡ shown m mem
   pub cleared : (mem : List (List ℕ)) (c : ℕ) → memory.chunk_cleared rows_per_chunk records_per_row blank_record mem c ≡ chunk_cleared mem c
   pub replaced : (mem : List (List ℕ)) (c r : ℕ) (l : Line) → c < chunk_count mem → r < rows_per_chunk → memory.row_replaced rows_per_chunk records_per_row mem c r (row_of l) ≡ row_replaced mem c r l
+  -- what a write leaves, by its answer: no more is asked of chunk and row than what the store said of them
+  pub written : (result : Result Unit StoreFault) (m : Marks) (mem : List (List ℕ)) (c r : ℕ) (l : Line) → refusal result ≡ row_refusal rows_per_chunk (out_of (chunk_count mem) m) c r → (if is_ok result then memory.row_replaced rows_per_chunk records_per_row mem c r (row_of l) else mem) ≡ (if is_ok result then row_replaced mem c r l else mem)

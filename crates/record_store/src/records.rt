@@ -14,9 +14,9 @@ use stores::ChunkShape;
 fn record_of(line: &Line) -> [u64; 9]
     ensures { result ≡ record_of line.now }
 {
-    let mut record = [line.cluster; 9];
-    record[1..].copy_from_slice(&line.words());
-    record
+    // taken apart, since a copy of words just written would wait for them
+    let [w0, w1, w2, w3, w4, w5, w6, w7] = line.words();
+    [line.cluster, w0, w1, w2, w3, w4, w5, w6, w7]
 }
 
 // the empty line where the record is that of no line
@@ -25,7 +25,7 @@ fn recorded_line(numbers: &[u64; 9]) -> Line
 {
     let mut words = [0; 8];
     words.copy_from_slice(&numbers[1..]);
-    Line::from_words(numbers[0], words).unwrap_or(Line::empty())
+    Line::from_words(numbers[0], words).unwrap_or_else(Line::empty)
 }
 
 // A row is one record.

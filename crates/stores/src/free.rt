@@ -22,9 +22,10 @@ pub(crate) fn chosen(out: &[bool], mark: usize) -> Option<usize>
     high.or_else(|| first_free(out, 0))
 }
 
+// Tried: `filter(..).count()` takes twice the time, for it branches at each mark.
 pub(crate) fn count_free(out: &[bool]) -> usize
     ensures is { result ≡ free_count out.now }
     ensures within { result ≤ length out.now }
 {
-    out.iter().filter(|is_out| !**is_out).count()
+    out.iter().map(|is_out| !*is_out as usize).sum()
 }

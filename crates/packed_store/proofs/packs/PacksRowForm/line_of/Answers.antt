@@ -1,8 +1,10 @@
 -- What the search leaves to show of `line_of`.
-use Rattle.std.proofs.Common.{◌∙◌}
-use Rattle.lines.proofs.Decoding.{holds_nothing}
+use Rattle.std.proofs.Common.{subst, rules}
+use Rattle.lines.specs.Refusals.{Unpacked}
 use Rattle.packed_store.proofs.Found.{line_found}
 use Rattle.packed_store.proofs.packs.PacksRowForm.line_of.Goals as goal
 
 pub returns : goal.returns
-returns c = c.unwrap_or.ensures ∙ line_found c.args.row.now c.unpack.result c.empty.result c.unpack.ensures.said (holds_nothing c.empty.result c.empty.ensures)
+returns c =
+    let said : Unpacked c.args.row.now c.unpack.result = subst (λ bs. Unpacked bs c.unpack.result) (search rules) c.unpack.ensures.said in
+    line_found c.args.row.now c.unpack.result c.unwrap_or_else.result said (search rules)
