@@ -1,5 +1,5 @@
 -- The text of an account.
-use Rattle.std.specs.Prelude.{◌≡◌, ℕ, ◌*◌, List, ◌++◌, vec_items, vec_len, codes, decimal, slice_index}
+use Rattle.std.specs.Prelude.{◌≡◌, ℕ, ◌*◌, List, ◌++◌, vec_items, vec_len, box_value, codes, decimal, Box, slice_index}
 use Rattle.std.specs.List.{flat_map}
 use Rattle.std.specs.BTreeMap.{values, btree_map_len}
 use Rattle.lines.specs.declared.rows.Line.{Line}
@@ -31,8 +31,8 @@ abbrev pub line_text : Line → List ℕ
 line_text l = packed_text l ++ (families_text l.cluster ++ codes "  unpacks to the same line\n")
 
 -- the lines, one after the other
-abbrev pub lines_text : List Line → List ℕ
-lines_text ls = flat_map line_text ls
+abbrev pub lines_text : {Y : Type 0} → List (Box Line Y) → List ℕ
+lines_text bs = flat_map (λ b. line_text (box_value b)) bs
 
 -- a refused line of the list, with the refusal's number
 abbrev pub refusal_text : Refusal → List ℕ

@@ -1,5 +1,5 @@
 -- What lines laid out hold, and when they are those of a list.
-use Rattle.std.specs.Prelude.{◌≡◌, ℕ, ◌+◌, true, List, map, length, Some, None, vec_items, vec_len, Option}
+use Rattle.std.specs.Prelude.{◌≡◌, ℕ, ◌+◌, true, List, map, length, Some, None, vec_items, vec_len, box_value, Option, Box}
 use Rattle.std.specs.BTreeMap.{IsOrdered, get}
 use Rattle.std.specs.BTreeMap.{BTreeMap}
 use Rattle.std.specs.Option.{ForSome}
@@ -19,18 +19,18 @@ abbrev pub refusal : Refusal → ℕ × List ℕ
 refusal r = (r.line, told r.fault)
 
 -- the entry at a position of a line that may be missing
-abbrev pub entry_in : Option Line → ℕ → Entry
+abbrev pub entry_in : {Y : Type 0} → Option (Box Line Y) → ℕ → Entry
 entry_in None k = None
-entry_in (Some l) k = entry_at l k
+entry_in (Some b) k = entry_at (box_value b) k
 
 -- the word of a page's entry in the lines
-abbrev pub word_in : BTreeMap ℕ Line → Book
+abbrev pub word_in : {Y : Type 0} → BTreeMap ℕ (Box Line Y) → Book
 word_in m p = word_of (entry_in (get nat_cmp m (cluster_of p)) (position_of p))
 
 -- the lines stand in the order of their clusters, each under its own
-pub record Sound (m : BTreeMap ℕ Line) : Type 0 where
+pub record Sound {Y : Type 0} (m : BTreeMap ℕ (Box Line Y)) : Type 0 where
   pub ordered : IsOrdered nat_cmp m
-  pub own : (c : ℕ) → ForSome (get nat_cmp m c) (λ l. is_of c l ≡ true)
+  pub own : (c : ℕ) → ForSome (get nat_cmp m c) (λ b. is_of c (box_value b) ≡ true)
 
 -- a layout is that of a list
 pub record LaidOut (list : List ℕ) (t : Layout) : Type 0 where

@@ -1,5 +1,5 @@
 -- What one line of a list does to the lines laid out so far.
-use Rattle.std.specs.Prelude.{◌≡◌, ℕ, ◌+◌, ◌*◌, true, cond, List, [], ◌∷◌, ◌++◌, map, Some, None, Ok, Err, vec_items, vec_len, Option, Result, ◌==◌}
+use Rattle.std.specs.Prelude.{◌≡◌, ℕ, ◌+◌, ◌*◌, true, cond, List, [], ◌∷◌, ◌++◌, map, Some, None, Ok, Err, vec_items, vec_len, Option, Result, Box, ◌==◌}
 use Rattle.std.specs.BTreeMap.{get}
 use Rattle.std.specs.BTreeMap.{BTreeMap}
 use Rattle.std.specs.Ordering.{nat_cmp}
@@ -27,13 +27,13 @@ abbrev pub Row : List ℕ → Result Listed ListFault → Type 0
 Row row r = RowRead (three_of row) r
 
 -- a page's line among the lines m, with the page entered
-pub record Joined (m : BTreeMap ℕ Line) (p w : ℕ) (l : Line) : Type 0 where
+pub record Joined {Y : Type 0} (m : BTreeMap ℕ (Box Line Y)) (p w : ℕ) (l : Line) : Type 0 where
   pub free : word_in m p ≡ 0
   pub own : is_of (cluster_of p) l ≡ true
   pub words : (k : ℕ) → word_of (entry_at l k) ≡ cond (k == position_of p) w (word_of (entry_in (get nat_cmp m (cluster_of p)) k))
 
 -- what a line of the list makes of the lines m: its page's line with the page entered, or its refusal
-abbrev pub Answered : BTreeMap ℕ Line → Option (ℕ × ℕ × ℕ) → Result Line ListFault → Type 0
+abbrev pub Answered : {Y : Type 0} → BTreeMap ℕ (Box Line Y) → Option (ℕ × ℕ × ℕ) → Result Line ListFault → Type 0
 Answered m None (Ok l) = ⊥
 Answered m (Some t) (Ok l) = (row_refusal (word_in m) (Some t) ≡ 0) × Joined m t.0 (t.1 * 8 + t.2) l
 Answered m t (Err e) = told e ≡ row_refusal (word_in m) t ∷ []

@@ -17,7 +17,7 @@ pub fn lay_out(heap: Global, list: &[u8]) -> Result<Layout, AllocError>
         refused: Vec::new(heap),
     };
     for (before, row) in Lines::new(list).enumerate() {
-        layout.take_row(before as u64 + 1, row)?;
+        layout.take_row(heap, before as u64 + 1, row)?;
     }
     Ok(layout)
 }

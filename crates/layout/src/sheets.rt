@@ -1,5 +1,5 @@
 // What comes of a list.
-ghost use Rattle.std.specs.Prelude.{◌≡◌, ℕ, true};
+ghost use Rattle.std.specs.Prelude.{◌≡◌, ℕ, true, box_value};
 ghost use Rattle.std.specs.BTreeMap.{IsOrdered, get};
 ghost use Rattle.std.specs.Option.{ForSome};
 ghost use Rattle.std.specs.Ordering.{nat_cmp};
@@ -31,13 +31,13 @@ impl fmt::Display for Refusal {
 
 #[derive(Drop)]
 pub struct Layout {
-    // the lines by their clusters
-    pub lines: BTreeMap<u64, Line>,
+    // the lines by their clusters, boxed since the map moves what it holds as it grows, and its nodes stand half full where clusters come in order
+    pub lines: BTreeMap<u64, Box<Line>>,
     // how many pages they hold
     pub pages: u64,
     // in the order of the list
     pub refused: Vec<Refusal>,
     ghost ordered: { IsOrdered nat_cmp lines } by { Prim.hlevel props },
     // each line stands under its own cluster, and none is empty
-    ghost own: { (c : ℕ) → ForSome (get nat_cmp lines c) (λ l. is_of c l ≡ true) },
+    ghost own: { (c : ℕ) → ForSome (get nat_cmp lines c) (λ b. is_of c (box_value b) ≡ true) },
 }

@@ -8,7 +8,8 @@ use crate::faults::ListFault;
 use crate::listed::Listed;
 use crate::sheets::{Layout, Refusal};
 use lines::Line;
-use std::alloc::AllocError;
+use std::alloc::{AllocError, Global};
+use std::collections::btree_map::Entry;
 
 impl Layout {
     // The line of a page with the page entered, or None where it has the page.
@@ -35,13 +36,19 @@ impl Layout {
     }
 
     // Takes in one line of the list, which has this number there.
-    pub(crate) fn take_row(&mut self, line: u64, row: &[u8]) -> Result<(), AllocError>
+    pub(crate) fn take_row(&mut self, heap: Global, line: u64, row: &[u8]) -> Result<(), AllocError>
         requires few { self.old.pages < line }
         ensures { OnOk result (Stepped self.old line row.now self.new) }
     {
         match self.line_by(row) {
             Ok(entered) => {
-                self.lines.insert(entered.cluster, entered)?;
+                // only a new cluster takes memory: a line that is there is written over
+                match self.lines.entry(entered.cluster)? {
+                    Entry::Occupied(mut held) => **held.get_mut() = entered,
+                    Entry::Vacant(free) => {
+                        free.insert(Box::new(heap, entered)?);
+                    }
+                }
                 self.pages += 1;
             }
             Err(fault) => self.refused.push(Refusal { line, fault })?,

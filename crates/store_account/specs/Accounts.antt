@@ -22,10 +22,10 @@ store_text name chunks rows size =
 unfoldable pub asked_text : ℕ → List ℕ → List ℕ
 asked_text needed answer = codes "  asked for " ++ (decimal needed ++ (codes " chunks: " ++ (answer ++ codes "\n")))
 
--- how many chunks were taken, the rows written, and their bytes
+-- how many chunks were taken, and the rows written
 unfoldable pub written_text : ℕ → ℕ → ℕ → List ℕ
-written_text chunks rows bytes =
-    codes "  taken: " ++ (decimal chunks ++ (codes " chunks\n  written: " ++ (decimal rows ++ (codes " lines in " ++ (decimal rows ++ (codes " rows, " ++ (decimal bytes ++ codes " bytes\n")))))))
+written_text chunks rows size =
+    codes "  taken: " ++ (decimal chunks ++ (codes " chunks\n  written: " ++ (decimal rows ++ (codes " lines in " ++ (decimal rows ++ (codes " rows, " ++ (decimal (rows * size) ++ codes " bytes\n")))))))
 
 -- the text of what stopped the laying, and how many lines it left out
 abbrev pub stop_text : List ℕ → ℕ → List ℕ
@@ -45,14 +45,14 @@ back_text same chunks free =
 abbrev pub told_text : ℕ → ℕ → ℕ → ℕ → Stay → List ℕ
 told_text n rows size free stay =
     asked_text (chunks_for rows n) (answer_text (refusal stay.asked)) ++
-    (written_text stay.chunks stay.rows (stay.rows * size) ++
+    (written_text stay.chunks stay.rows size ++
     (stopped_text (stop_refusal stay.stopped) (n - stay.rows) ++ back_text stay.same stay.chunks free))
 
 -- the same where w of the n lines find a row, in a store with these marks
 abbrev pub room_text : ℕ → ℕ → ℕ → List Bool → ℕ → List ℕ
 room_text n rows size out w =
     asked_text (chunks_for rows n) (answer_text (spare_refusal out (chunks_for rows n))) ++
-    (written_text (chunks_for rows w) w (w * size) ++
+    (written_text (chunks_for rows w) w size ++
     (stopped_text (left_out_refusal w n) (n - w) ++ back_text w (chunks_for rows w) (free_count out)))
 
 -- a store of this name, and a stay of n lines in it: as many as find a row are written, and read back the same

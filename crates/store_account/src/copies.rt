@@ -1,5 +1,5 @@
 // The lines of a layout, copied.
-ghost use Rattle.std.specs.Prelude.{◌≡◌, IfOk};
+ghost use Rattle.std.specs.Prelude.{◌≡◌, map, IfOk, box_value};
 ghost use Rattle.std.specs.BTreeMap.{values};
 
 use layout::Layout;
@@ -8,7 +8,7 @@ use std::alloc::{AllocError, Global};
 
 // The lines in the order of their clusters.
 pub(crate) fn copy_lines(heap: Global, layout: &Layout) -> Result<Vec<Line>, AllocError>
-    ensures { IfOk result (λ v. v.items ≡ values layout.now.lines) }
+    ensures { IfOk result (λ v. v.items ≡ map box_value (values layout.now.lines)) }
 {
-    layout.lines.values().copied().collect(heap)
+    layout.lines.values().map(|line| **line).collect(heap)
 }

@@ -10,6 +10,6 @@ pub returns-in-None : goal.returns-in-None
 returns-in-None c =
     let m = c.args.self.now.lines in
     let p = c.args.listed.page.number in
-    let old = c.in-Some.line.now in
-    let found : get nat_cmp m (cluster_of p) ≡ Some old = sym (c.in-Some.ensures.value ∙ ap (get nat_cmp m) c.cluster.ensures) in
-    joined_with m p old c.args.listed.mapping c.with.result found (c.args.self.now.own _ old found) (search rules) (search rules)
+    let b = c.in-Some.line.now in
+    let found : get nat_cmp m (cluster_of p) ≡ Some b = sym (c.in-Some.ensures.value ∙ ap (get nat_cmp m) c.cluster.ensures) in
+    joined_with m p b c.args.listed.mapping c.with.result found (c.args.self.now.own _ b found) (search rules) (search rules)

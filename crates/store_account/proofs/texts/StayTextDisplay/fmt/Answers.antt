@@ -1,5 +1,5 @@
 -- What the search leaves to show of the text of a stay: it is that of its parts.
-use Rattle.std.proofs.Common.{◌*◌, refl, ap, rules}
+use Rattle.std.proofs.Common.{refl, rules}
 use Rattle.std.specs.Fmt.{HasWritten}
 use Rattle.std.proofs.Output.{has_written_append, has_written_of_eq}
 use Rattle.stores.specs.Refusals.{refusal}
@@ -15,8 +15,8 @@ returns-clause-writes g c p ok =
     let took = g.W.Write.write_str_gives in
     let asked : HasWritten took _ (asked_text (chunks_for t.shape.rows t.lines) (answer_text (refusal s.asked))) _
     = has_written_of_eq _ _ _ _ _ (search rules) (c.in_ok-writeln.ensures.writes p refl) in
-    let written : HasWritten took _ (written_text s.chunks s.rows (s.rows * t.shape.row_bytes)) _
-    = has_written_of_eq _ _ _ _ _ (ap (written_text s.chunks s.rows) c.bytes_of_rows-bytes.ensures) (c.in_ok-writeln-2.ensures.writes asked.plain refl) in
+    let written : HasWritten took _ (written_text s.chunks s.rows t.shape.row_bytes) _
+    = has_written_of_eq _ _ _ _ _ (rw c.bytes_of_rows-bytes.ensures) (c.in_ok-writeln-2.ensures.writes asked.plain refl) in
     let stop = c.in_ok-write.ensures.writes written.plain refl in
     let back : HasWritten took _ (back_text s.same s.chunks t.free) _
     = has_written_of_eq _ _ _ _ _ (search rules) (c.writeln-3.ensures.writes stop.plain ok) in
